@@ -1,0 +1,149 @@
+-- What the first wrong column says of the bytes.
+use mathlib.Core.Path.{_≡_, refl, sym, ap, _∙_}
+use mathlib.Core.List.{List, [], _∷_, _++_}
+use mathlib.Core.Logic.{⊎-elim}
+use Prim.Native.Nat.{ℕ, suc, _+_, _-_, _<_, _≤_}
+use native.Mathlib.Omega.{arith}
+use lib.ListN.{length, take}
+use Rattle.std.specs.declared.option.Option.{Option}
+use Rattle.std.specs.declared.option.Option.the-variants.{Some, None}
+use Rattle.std.proofs.shelf.Lists.{length-append}
+use Rattle.std.proofs.shelf.Tests.{cases-eq}
+use Rattle.sentences.specs.Format.{Shaped, WellShaped, Begins, FirstWrong}
+use Rattle.sentences.specs.Shape.{after, end-fault, fault-from}
+use Rattle.sentences.specs.declared.shape.Expect.{Expect}
+use Rattle.sentences.specs.declared.shape.Expect.the-variants.{Dollar, Address, Separator, Fields, HighDigit, LowDigit, End}
+use Rattle.sentences.proofs.Accepts.{accepted-shape, shape-accepted}
+use Rattle.sentences.proofs.Runs.{run, run-step, run-wrong, run-append, run-front, ending, ending-right}
+use Rattle.sentences.proofs.Scans.{byte-over, byte-wrong, byte-right, no-fault, run-no-fault}
+
+-- where the scan stops: so many right bytes come first
+record Found (e : Expect) (column : ℕ) (xs : List ℕ) (c : ℕ) : Type 0 where
+  good : ℕ
+  place : c ≡ column + good
+  within : good ≤ length xs
+  limit : c ≤ 81
+  led : Expect
+  leads : run e (take good xs) ≡ Some led
+  wrong : good < length xs → c ≤ 80 → run e (take (suc good) xs) ≡ None
+  short : good ≡ length xs → run e xs ≡ Some End → ⊥
+
+abbrev Stops : List ℕ → Type 0
+Stops xs = (e : Expect) (column c : ℕ) → column ≤ 81 → fault-from e column xs ≡ Some c → Found e column xs c
+
+same-some : {A : Type 0} (x y : A) → Some x ≡ Some y → x ≡ y
+same-some x y e = cc
+
+not-ended : (e : Expect) (column c : ℕ) → end-fault e column ≡ Some c → (c ≡ column) × (run e [] ≡ Some End → ⊥)
+not-ended Dollar column c s = (sym (same-some column c s), λ r. let z : _≡_ {A = ℕ} 0 1 = cc in omega arith)
+not-ended (Address left) column c s = (sym (same-some column c s), λ r. let z : _≡_ {A = ℕ} 0 1 = cc in omega arith)
+not-ended Separator column c s = (sym (same-some column c s), λ r. let z : _≡_ {A = ℕ} 0 1 = cc in omega arith)
+not-ended Fields column c s = (sym (same-some column c s), λ r. let z : _≡_ {A = ℕ} 0 1 = cc in omega arith)
+not-ended HighDigit column c s = (sym (same-some column c s), λ r. let z : _≡_ {A = ℕ} 0 1 = cc in omega arith)
+not-ended LowDigit column c s = (sym (same-some column c s), λ r. let z : _≡_ {A = ℕ} 0 1 = cc in omega arith)
+not-ended End column c s = let z : _≡_ {A = ℕ} 0 1 = cc in absurd (omega arith)
+
+found-at : (e : Expect) (column b : ℕ) (bs : List ℕ) (c : ℕ) → Stops bs → column ≤ 81 → (column ≡ 81 → ⊥) → fault-from e column (b ∷ bs) ≡ Some c → (o : Option Expect) → after e b ≡ o → Found e column (b ∷ bs) c
+found-at e column b bs c again low under f None wrong =
+    let at : c ≡ column = sym (same-some column c (sym (byte-wrong e column b bs under wrong) ∙ f)) in
+    record {
+      good = 0;
+      place = omega arith;
+      within = omega arith;
+      limit = omega arith;
+      led = e;
+      leads = refl;
+      wrong = λ _ _. run-wrong e b [] wrong;
+      short = λ z. absurd (omega arith);
+    }
+found-at e column b bs c again low under f (Some next) right =
+    let rest = again next (column + 1) c (omega arith) (sym (byte-right e column b bs next under right) ∙ f) in
+    record {
+      good = suc (rest .good);
+      place = omega arith;
+      within = omega arith;
+      limit = rest .limit;
+      led = rest .led;
+      leads = run-step e next b (take (rest .good) bs) right ∙ rest .leads;
+      wrong = λ more low. run-step e next b (take (suc (rest .good)) bs) right ∙ rest .wrong (omega arith) low;
+      short = λ all r. rest .short (omega arith) (sym (run-step e next b bs right) ∙ r);
+    }
+
+found : (xs : List ℕ) → Stops xs
+found [] e column c low f =
+    let at = not-ended e column c f in
+    record {
+      good = 0;
+      place = omega arith;
+      within = omega arith;
+      limit = omega arith;
+      led = e;
+      leads = refl;
+      wrong = λ more. absurd (omega arith);
+      short = λ _ r. at .1 r;
+    }
+found (b ∷ bs) e column c low f =
+    ⊎-elim
+    (λ (at : column ≡ 81).
+    let here : c ≡ column = sym (same-some column c (sym (byte-over e column b bs at) ∙ f)) in
+    record {
+      good = 0;
+      place = omega arith;
+      within = omega arith;
+      limit = omega arith;
+      led = e;
+      leads = refl;
+      wrong = λ _ low. absurd (omega arith);
+      short = λ z. absurd (omega arith);
+    })
+    (λ (under : column ≡ 81 → ⊥). found-at e column b bs c (found bs) low under f (after e b) refl)
+    (cases-eq column 81)
+
+-- bytes that lead anywhere begin a well-shaped sentence, and no others do
+led-begins : (xs : List ℕ) (e : Expect) → run Dollar xs ≡ Some e → Begins xs
+led-begins xs e leads =
+    (ending e, accepted-shape (xs ++ ending e) (run-append xs (ending e) Dollar e leads ∙ ending-right e))
+
+begins-led : (xs : List ℕ) → Begins xs → run Dollar xs ≡ None → ⊥
+begins-led xs (rest, shape) none =
+    let front = run-front xs rest Dollar End (shape-accepted (xs ++ rest) shape) in
+    let z : _≡_ {A = ℕ} 0 1 = cc in
+    omega arith
+
+pub first-wrong : (xs : List ℕ) (c : ℕ) → fault-from Dollar 1 xs ≡ Some c → FirstWrong xs c
+first-wrong xs c f =
+    let at = found xs Dollar 1 c (omega arith) f in
+    let before : c - 1 ≡ at .good = omega arith in
+    let here : c ≡ suc (at .good) = omega arith in
+    record {
+      from-one = omega arith;
+      within = omega arith;
+      limit = at .limit;
+      before = rw before (led-begins (take (at .good) xs) (at .led) (at .leads));
+      here = λ in-bytes low begins. begins-led (take c xs) begins (ap (λ n. run Dollar (take n xs)) here ∙ at .wrong (omega arith) low);
+      ended = λ end shape. at .short (omega arith) (shape-accepted xs shape);
+    }
+
+-- without a fault the sentence is well-shaped and short enough
+pub well-shaped : (xs : List ℕ) → fault-from Dollar 1 xs ≡ None → WellShaped xs × (length xs ≤ 80)
+well-shaped xs f =
+    let passes = no-fault xs Dollar 1 (omega arith) f in
+    (accepted-shape xs (passes .0), omega arith)
+
+pub no-shape-fault : (xs : List ℕ) → WellShaped xs → length xs ≤ 80 → fault-from Dollar 1 xs ≡ None
+no-shape-fault xs shape short = run-no-fault xs Dollar 1 (shape-accepted xs shape) (omega arith)
+
+pub shaped-length : (xs address fields digits : List ℕ) → Shaped xs address fields digits → length xs ≡ length fields + 9
+shaped-length xs address fields digits s =
+    let whole = ap length (s .joined) in
+    let all = length-append address (fields ++ (42 ∷ digits)) in
+    let rest = length-append fields (42 ∷ digits) in
+    let five = s .address-five in
+    let two = s .digits-two in
+    omega arith
+
+pub shape-lengths : (xs : List ℕ) → fault-from Dollar 1 xs ≡ None → (9 ≤ length xs) × (length xs ≤ 80)
+shape-lengths xs f =
+    let right = well-shaped xs f in
+    let long = shaped-length xs (right .0 .0) (right .0 .1) (right .0 .2) (right .0 .3) in
+    (omega arith, right .1)

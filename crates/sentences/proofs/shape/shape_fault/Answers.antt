@@ -1,0 +1,53 @@
+use mathlib.Core.Path.{_≡_, sym, ap, _∙_}
+use mathlib.Core.List.{List}
+use native.Mathlib.Omega.{arith}
+use Prim.Native.Nat.{ℕ, _+_, _≤_}
+use lib.ListN.{length, drop, getD}
+use Rattle.std.specs.declared.option.Option.{Option}
+use Rattle.std.specs.declared.option.Option.the-variants.{None}
+use Rattle.std.proofs.shelf.Lists.{at-drop-more, at-drop-all}
+use Rattle.sentences.specs.Shape.{end-fault, fault-from, shape-fault}
+use Rattle.sentences.proofs.Faults.{shape-lengths}
+use Rattle.sentences.proofs.Scans.{byte-over, byte-wrong, byte-right}
+use Rattle.sentences.proofs.shape.shape_fault.Needs as need
+
+-- both clauses, from the first
+pinned : (xs : List ℕ) (r : Option ℕ) → r ≡ shape-fault xs → (value : r ≡ shape-fault xs) × (r ≡ None → (9 ≤ length xs) × (length xs ≤ 80))
+pinned xs r is = (is, λ none. shape-lengths xs (sym is ∙ none))
+
+pub returns-then-i-eq-LONGEST : need.returns-then-i-eq-LONGEST
+returns-then-i-eq-LONGEST c =
+    let xs = c .args .bytes .now in
+    let i = c .loop-i .i in
+    let e = c .loop-i .expect in
+    let at = at-drop-more (fault-from e (i + 1)) xs i 0 (c .loop-i-test .taken) in
+    let r = pinned xs _ (sym (at ∙ byte-over e (i + 1) (getD xs i 0) (drop (i + 1) xs) (omega arith)) ∙ c .loop-i .inv) in
+    record { value = r .0; lengths = r .1 }
+
+pub returns-in-rest : need.returns-in-rest
+returns-in-rest c =
+    let xs = c .args .bytes .now in
+    let i = c .loop-i .i in
+    let e = c .loop-i .expect in
+    let at = at-drop-more (fault-from e (i + 1)) xs i 0 (c .loop-i-test .taken) in
+    let wrong = sym (c .next .ensures) ∙ c .in-rest .is in
+    let r = pinned xs _ (sym (at ∙ byte-wrong e (i + 1) (getD xs i 0) (drop (i + 1) xs) (omega arith) wrong) ∙ c .loop-i .inv) in
+    record { value = r .0; lengths = r .1 }
+
+pub loop-i-again : need.loop-i-again
+loop-i-again c =
+    let xs = c .args .bytes .now in
+    let i = c .loop-i .i in
+    let e = c .loop-i .expect in
+    let at = at-drop-more (fault-from e (i + 1)) xs i 0 (c .loop-i-test .taken) in
+    let right = sym (c .next .ensures) ∙ c .in-Some .is in
+    sym (at ∙ byte-right e (i + 1) (getD xs i 0) (drop (i + 1) xs) (c .in-Some .following) (omega arith) right) ∙ c .loop-i .inv
+
+pub returns : need.returns
+returns c =
+    let xs = c .args .bytes .now in
+    let i = c .loop-i .i in
+    let e = c .loop-i .expect in
+    let last = c .end-fault .ensures ∙ ap (λ n. end-fault e (n + 1)) (omega arith) in
+    let r = pinned xs _ (last ∙ sym (at-drop-all (fault-from e (i + 1)) xs i (c .loop-i-test .left)) ∙ c .loop-i .inv) in
+    record { value = r .0; lengths = r .1 }
