@@ -1,34 +1,21 @@
 -- A run from the first byte reaches the end exactly on the well-shaped sentences.
-use mathlib.Core.Path.{_≡_, refl, sym, ap, _∙_}
-use mathlib.Core.Bool.{Bool, true, false, cond}
+use mathlib.Core.Path.{_≡_, refl, ap, _∙_}
+use mathlib.Core.Bool.{true, cond}
 use mathlib.Core.List.{List, [], _∷_, _++_}
-use mathlib.Core.Logic.{_⊎_, inl, inr, ⊎-elim}
+use mathlib.Core.Logic.{⊎-elim}
 use Prim.Native.Nat.{ℕ, zero, suc, _-_}
 use native.Mathlib.Omega.{arith}
 use lib.Dec.{eqb}
 use lib.ListN.{length}
-use Rattle.std.specs.declared.option.Option.{Option}
 use Rattle.std.specs.declared.option.Option.the-variants.{Some, None}
 use Rattle.std.specs.shelf.Lists.{All}
 use Rattle.std.proofs.shelf.Tests.{eqb-true}
 use Rattle.sentences.specs.Bytes.{is-address-byte, is-field-byte, is-hex-digit}
-use Rattle.sentences.specs.Format.{CommaFirst, Shaped, WellShaped}
+use Rattle.sentences.specs.Format.{CommaFirst, WellShaped}
 use Rattle.sentences.specs.Shape.{after}
-use Rattle.sentences.specs.declared.shape.Expect.{Expect}
 use Rattle.sentences.specs.declared.shape.Expect.the-variants.{Dollar, Address, Separator, Fields, HighDigit, LowDigit, End}
+use Rattle.sentences.proofs.Somes.{some-if, some-either, none-some}
 use Rattle.sentences.proofs.Runs.{run, bind-some, run-step, run-append, address-more}
-
--- what a test tells that lets something through
-some-if : {A : Type 0} (t : Bool) (x y : A) → cond t (Some x) None ≡ Some y → (t ≡ true) × (y ≡ x)
-some-if true x y e = (refl, cc)
-some-if false x y e = let z : _≡_ {A = ℕ} 0 1 = cc in absurd (omega arith)
-
-some-either : {A : Type 0} (t u : Bool) (x x′ y : A) → cond t (Some x) (cond u (Some x′) None) ≡ Some y → ((t ≡ true) × (y ≡ x)) ⊎ ((u ≡ true) × (y ≡ x′))
-some-either true u x x′ y e = inl (refl, cc)
-some-either false u x x′ y e = inr (some-if u x′ y e)
-
-never : {P : Type 0} (e : Expect) → _≡_ {A = Option Expect} None (Some e) → P
-never e h = let z : _≡_ {A = ℕ} 0 1 = cc in absurd (omega arith)
 
 -- two hexadecimal digits
 abbrev Digits : List ℕ → Type 0
@@ -54,7 +41,7 @@ accept-digits (h ∷ bs) led =
       where
         end : (cs : List ℕ) → is-hex-digit h ≡ true → is-hex-digit l ≡ true → run End cs ≡ Some End → Digits (h ∷ l ∷ cs)
         end [] high low led = (refl, (high, (low, tt)))
-        end (c ∷ ds) high low led = never End led
+        end (c ∷ ds) high low led = none-some led
 
 accept-fields : (xs : List ℕ) → run Fields xs ≡ Some End → Tail xs
 accept-fields [] led = let z : _≡_ {A = ℕ} 0 1 = cc in absurd (omega arith)

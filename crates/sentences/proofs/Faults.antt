@@ -1,20 +1,21 @@
 -- What the first wrong column says of the bytes.
-use mathlib.Core.Path.{_≡_, refl, sym, ap, _∙_}
+use mathlib.Core.Path.{_≡_, refl, sym, ap, subst, _∙_}
 use mathlib.Core.List.{List, [], _∷_, _++_}
-use mathlib.Core.Logic.{⊎-elim}
+use mathlib.Core.Logic.{_⊎_, ⊎-elim}
 use Prim.Native.Nat.{ℕ, suc, _+_, _-_, _<_, _≤_}
 use native.Mathlib.Omega.{arith}
-use lib.ListN.{length, take}
+use lib.ListN.{length, take, drop}
 use Rattle.std.specs.declared.option.Option.{Option}
 use Rattle.std.specs.declared.option.Option.the-variants.{Some, None}
-use Rattle.std.proofs.shelf.Lists.{length-append}
-use Rattle.std.proofs.shelf.Tests.{cases-eq}
+use Rattle.std.proofs.shelf.Lists.{append-assoc, length-append, take-append-drop, take-take}
+use Rattle.std.proofs.shelf.Tests.{cases-lt, cases-order}
 use Rattle.sentences.specs.Format.{Shaped, WellShaped, Begins, FirstWrong}
 use Rattle.sentences.specs.Shape.{after, end-fault, fault-from}
 use Rattle.sentences.specs.declared.shape.Expect.{Expect}
 use Rattle.sentences.specs.declared.shape.Expect.the-variants.{Dollar, Address, Separator, Fields, HighDigit, LowDigit, End}
 use Rattle.sentences.proofs.Accepts.{accepted-shape, shape-accepted}
 use Rattle.sentences.proofs.Runs.{run, run-step, run-wrong, run-append, run-front, ending, ending-right}
+use Rattle.sentences.proofs.Somes.{same-some}
 use Rattle.sentences.proofs.Scans.{byte-over, byte-wrong, byte-right, no-fault, run-no-fault}
 
 -- where the scan stops: so many right bytes come first
@@ -31,21 +32,18 @@ record Found (e : Expect) (column : ℕ) (xs : List ℕ) (c : ℕ) : Type 0 wher
 abbrev Stops : List ℕ → Type 0
 Stops xs = (e : Expect) (column c : ℕ) → column ≤ 81 → fault-from e column xs ≡ Some c → Found e column xs c
 
-same-some : {A : Type 0} (x y : A) → Some x ≡ Some y → x ≡ y
-same-some x y e = cc
-
 not-ended : (e : Expect) (column c : ℕ) → end-fault e column ≡ Some c → (c ≡ column) × (run e [] ≡ Some End → ⊥)
-not-ended Dollar column c s = (sym (same-some column c s), λ r. let z : _≡_ {A = ℕ} 0 1 = cc in omega arith)
-not-ended (Address left) column c s = (sym (same-some column c s), λ r. let z : _≡_ {A = ℕ} 0 1 = cc in omega arith)
-not-ended Separator column c s = (sym (same-some column c s), λ r. let z : _≡_ {A = ℕ} 0 1 = cc in omega arith)
-not-ended Fields column c s = (sym (same-some column c s), λ r. let z : _≡_ {A = ℕ} 0 1 = cc in omega arith)
-not-ended HighDigit column c s = (sym (same-some column c s), λ r. let z : _≡_ {A = ℕ} 0 1 = cc in omega arith)
-not-ended LowDigit column c s = (sym (same-some column c s), λ r. let z : _≡_ {A = ℕ} 0 1 = cc in omega arith)
+not-ended Dollar column c s = (sym (same-some s), λ r. let z : _≡_ {A = ℕ} 0 1 = cc in omega arith)
+not-ended (Address left) column c s = (sym (same-some s), λ r. let z : _≡_ {A = ℕ} 0 1 = cc in omega arith)
+not-ended Separator column c s = (sym (same-some s), λ r. let z : _≡_ {A = ℕ} 0 1 = cc in omega arith)
+not-ended Fields column c s = (sym (same-some s), λ r. let z : _≡_ {A = ℕ} 0 1 = cc in omega arith)
+not-ended HighDigit column c s = (sym (same-some s), λ r. let z : _≡_ {A = ℕ} 0 1 = cc in omega arith)
+not-ended LowDigit column c s = (sym (same-some s), λ r. let z : _≡_ {A = ℕ} 0 1 = cc in omega arith)
 not-ended End column c s = let z : _≡_ {A = ℕ} 0 1 = cc in absurd (omega arith)
 
-found-at : (e : Expect) (column b : ℕ) (bs : List ℕ) (c : ℕ) → Stops bs → column ≤ 81 → (column ≡ 81 → ⊥) → fault-from e column (b ∷ bs) ≡ Some c → (o : Option Expect) → after e b ≡ o → Found e column (b ∷ bs) c
+found-at : (e : Expect) (column b : ℕ) (bs : List ℕ) (c : ℕ) → Stops bs → column ≤ 81 → column ≤ 80 → fault-from e column (b ∷ bs) ≡ Some c → (o : Option Expect) → after e b ≡ o → Found e column (b ∷ bs) c
 found-at e column b bs c again low under f None wrong =
-    let at : c ≡ column = sym (same-some column c (sym (byte-wrong e column b bs under wrong) ∙ f)) in
+    let at : c ≡ column = sym (same-some (sym (byte-wrong e column b bs under wrong) ∙ f)) in
     record {
       good = 0;
       place = omega arith;
@@ -84,8 +82,8 @@ found [] e column c low f =
     }
 found (b ∷ bs) e column c low f =
     ⊎-elim
-    (λ (at : column ≡ 81).
-    let here : c ≡ column = sym (same-some column c (sym (byte-over e column b bs at) ∙ f)) in
+    (λ (at : 80 < column).
+    let here : c ≡ column = sym (same-some (sym (byte-over e column b bs at) ∙ f)) in
     record {
       good = 0;
       place = omega arith;
@@ -96,8 +94,8 @@ found (b ∷ bs) e column c low f =
       wrong = λ _ low. absurd (omega arith);
       short = λ z. absurd (omega arith);
     })
-    (λ (under : column ≡ 81 → ⊥). found-at e column b bs c (found bs) low under f (after e b) refl)
-    (cases-eq column 81)
+    (λ (under : column ≤ 80). found-at e column b bs c (found bs) low under f (after e b) refl)
+    (cases-lt 80 column)
 
 -- bytes that lead anywhere begin a well-shaped sentence, and no others do
 led-begins : (xs : List ℕ) (e : Expect) → run Dollar xs ≡ Some e → Begins xs
@@ -147,3 +145,29 @@ shape-lengths xs f =
     let right = well-shaped xs f in
     let long = shaped-length xs (right .0 .0) (right .0 .1) (right .0 .2) (right .0 .3) in
     (omega arith, right .1)
+
+-- a shorter front begins what a longer one begins
+front-begins : (xs : List ℕ) (m n : ℕ) → m ≤ n → Begins (take n xs) → Begins (take m xs)
+front-begins xs m n le (rest, shape) =
+    let front : take n xs ≡ take m xs ++ drop m (take n xs) = sym (take-append-drop m (take n xs)) ∙ ap (λ ys. ys ++ drop m (take n xs)) (take-take m n xs le) in
+    (drop m (take n xs) ++ rest, subst (λ (ys : List ℕ). WellShaped ys) (ap (λ ys. ys ++ rest) front ∙ append-assoc (take m xs) (drop m (take n xs)) rest) shape)
+
+-- of two first wrong columns, none comes earlier
+not-earlier : (xs : List ℕ) (c d : ℕ) → FirstWrong xs c → FirstWrong xs d → c < d → ⊥
+not-earlier xs c d wrong later less =
+    wrong .here (omega (arith, later .within)) (omega (arith, later .limit)) (front-begins xs c (d - 1) (omega arith) (later .before))
+
+-- only the first wrong column is refused
+pub wrong-first : (xs : List ℕ) (c : ℕ) → FirstWrong xs c → fault-from Dollar 1 xs ≡ Some c
+wrong-first xs c wrong = by (fault-from Dollar 1 xs) refl
+  where
+    by : (o : Option ℕ) → fault-from Dollar 1 xs ≡ o → o ≡ Some c
+    by (Some d) f =
+        let at = first-wrong xs d f in
+        ⊎-elim (λ (same : d ≡ c). ap Some same) (λ (order : (d < c) ⊎ (c < d)). absurd (⊎-elim (not-earlier xs d c at wrong) (not-earlier xs c d wrong at) order)) (cases-order d c)
+    by None f =
+        let right = well-shaped xs f in
+        absurd (⊎-elim
+        (λ (within : c < length xs + 1). wrong .here (omega arith) (omega (arith, right .1)) (drop c xs, subst (λ (ys : List ℕ). WellShaped ys) (sym (take-append-drop c xs)) (right .0)))
+        (λ (past : length xs + 1 ≤ c). wrong .ended (omega (arith, wrong .within)) (right .0))
+        (cases-lt c (length xs + 1)))

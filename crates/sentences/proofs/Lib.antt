@@ -1,7 +1,13 @@
 pub mod Accepts
+pub mod Clearances
 pub mod Decided
 pub mod Faults
 pub mod Fronts
+pub mod Laws
+pub mod Leading
+pub mod Numbers
+pub mod Places
 pub mod Readings
 pub mod Runs
 pub mod Scans
+pub mod Somes

@@ -1,16 +1,14 @@
 -- Where a run of bytes leads, from what is expected first.
-use mathlib.Core.Path.{_≡_, refl, sym, ap, _∙_}
-use mathlib.Core.Bool.{Bool, true, false, cond}
+use mathlib.Core.Path.{_≡_, refl, ap, _∙_}
+use mathlib.Core.Bool.{cond}
 use mathlib.Core.List.{List, [], _∷_, _++_}
-use mathlib.Core.Logic.{_⊎_, inl, inr}
-use Prim.Native.Nat.{ℕ, zero, suc, _+_, _-_, _<_, _≤_}
+use Prim.Native.Nat.{ℕ, zero, suc, _+_, _-_}
 use native.Mathlib.Omega.{arith}
 use lib.Dec.{eqb}
-use lib.ListN.{length, replicate}
+use lib.ListN.{replicate}
 use Rattle.std.specs.declared.option.Option.{Option}
 use Rattle.std.specs.declared.option.Option.the-variants.{Some, None}
 use Rattle.std.proofs.shelf.Tests.{ne-eqb, cond-false}
-use Rattle.sentences.specs.Bytes.{is-address-byte, is-field-byte, is-hex-digit}
 use Rattle.sentences.specs.Shape.{after}
 use Rattle.sentences.specs.declared.shape.Expect.{Expect}
 use Rattle.sentences.specs.declared.shape.Expect.the-variants.{Dollar, Address, Separator, Fields, HighDigit, LowDigit, End}

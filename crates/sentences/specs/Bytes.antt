@@ -2,7 +2,9 @@
 use mathlib.Core.Bool.{Bool, cond, not, _&&_, _||_}
 use mathlib.Core.List.{List, [], _∷_}
 use Prim.Native.Nat.{ℕ, _+_, _/_, _%_}
+use lib.Bits.{bitXor}
 use lib.Dec.{eqb, leb, ltb}
+use Rattle.std.specs.Iters.{folded}
 
 abbrev pub is-digit : ℕ → Bool
 is-digit b = leb 48 b && leb b 57
@@ -26,3 +28,7 @@ hex-digit n = cond (ltb n 10) (48 + n) (55 + n)
 -- a byte in two hexadecimal digits
 abbrev pub hex-text : ℕ → List ℕ
 hex-text n = hex-digit (n / 16) ∷ hex-digit (n % 16) ∷ []
+
+-- the exclusive or of bytes
+abbrev pub sum-of : List ℕ → ℕ
+sum-of bytes = folded bitXor 0 bytes

@@ -54,27 +54,30 @@ abbrev pub keel-of : List ℕ → Option ℕ
 keel-of [] = None
 keel-of (sign ∷ text) = cond (eqb sign 45) (metres-of text) None
 
--- what follows the offset, from a column on: at most one more field
+-- the column of a fourth field, where one follows a third that begins at `column`
+abbrev pub fourth-at : ℕ → Option (List ℕ × List ℕ) → Option ℕ
+fourth-at column None = None
+fourth-at column (Some third) = cond (eqb (length (third .1)) 0) None (Some (column + 2 + length (third .0)))
+
+-- the same in what follows the offset, whose comma would stand at `column`
 abbrev pub extra-of : ℕ → List ℕ → Option ℕ
-extra-of column rest =
-    elim (next-field rest) [ None ↦ None | Some third ↦ cond (eqb (length (third .1)) 0) None (Some (column + 2 + length (third .0))) ]
+extra-of column rest = fourth-at column (next-field rest)
+
+-- what comes of an answer that has to be there, or no clearance, at its column
+abbrev pub needed : {A : Type 0} → Option A → ℕ → (A → Result ℤ SentenceError) → Result ℤ SentenceError
+needed None column next = Err (NoClearance column)
+needed (Some x) column next = next x
+
+-- no clearance, at the column of a fourth field, or else the clearance
+abbrev pub unless-extra : Option ℕ → ℤ → Result ℤ SentenceError
+unless-extra None clearance = Ok clearance
+unless-extra (Some column) clearance = Err (NoClearance column)
 
 -- the clearance that fields give, from the column where they begin: depth less what the keel takes of it
 abbrev pub clearance-of : ℕ → List ℕ → Result ℤ SentenceError
 clearance-of column fields =
-    elim (next-field fields) [
-      | None ↦ Err (NoClearance column)
-      | Some depth ↦ elim (metres-of (depth .0)) [
-        | None ↦ Err (NoClearance (column + 1))
-        | Some deep ↦ elim (next-field (depth .1)) [
-          | None ↦ Err (NoClearance (column + 1 + length (depth .0)))
-          | Some offset ↦ elim (keel-of (offset .0)) [
-            | None ↦ Err (NoClearance (column + 1 + length (depth .0) + 1))
-            | Some keel ↦ elim (extra-of (column + 1 + length (depth .0) + 1 + length (offset .0)) (offset .1)) [
-              | None ↦ Ok (pos deep -ℤ pos keel)
-              | Some extra ↦ Err (NoClearance extra)
-            ]
-          ]
-        ]
-      ]
-    ]
+    needed (next-field fields) column (λ depth.
+    needed (metres-of (depth .0)) (column + 1) (λ deep.
+    needed (next-field (depth .1)) (column + 1 + length (depth .0)) (λ offset.
+    needed (keel-of (offset .0)) (column + 1 + length (depth .0) + 1) (λ keel.
+    unless-extra (extra-of (column + 1 + length (depth .0) + 1 + length (offset .0)) (offset .1)) (pos deep -ℤ pos keel)))))

@@ -8,8 +8,11 @@ use lib.IntN.{ℤ, pos, _-ℤ_}
 use lib.ListN.{length, take}
 use Rattle.std.specs.Iters.{folded}
 use Rattle.std.specs.shelf.Lists.{All}
-use Rattle.sentences.specs.Bytes.{is-digit, is-address-byte, is-field-byte, is-hex-digit, hex-text}
-use Rattle.sentences.specs.Reader.{sum-of}
+use Rattle.sentences.specs.Bytes.{is-digit, is-address-byte, is-field-byte, is-hex-digit, hex-text, sum-of}
+
+-- each follows from the other
+abbrev pub Exactly : Type 0 → Type 0 → Type 0
+Exactly P Q = (P → Q) × (Q → P)
 
 -- fields, if there are any, begin with a comma
 abbrev pub CommaFirst : List ℕ → Type 0
@@ -47,3 +50,47 @@ pub record FirstWrong (bytes : List ℕ) (column : ℕ) : Type 0 where
 pub record Sentence (bytes address fields : List ℕ) : Type 0 where
   pub shaped : Shaped bytes address fields (hex-text (sum-of (address ++ fields)))
   pub short : length bytes ≤ 80
+
+-- bytes that are a sentence with this address
+abbrev pub HasAddress : List ℕ → List ℕ → Type 0
+HasAddress bytes address = (fields : List ℕ) × Sentence bytes address fields
+
+-- the number that digits write
+abbrev pub decimal-of : List ℕ → ℕ
+decimal-of digits = folded (λ n b. n * 10 + (b - 48)) 0 digits
+
+-- a fraction behind its point, if there is one
+abbrev pub pointed : List ℕ → List ℕ
+pointed [] = []
+pointed (d ∷ ds) = 46 ∷ d ∷ ds
+
+-- a number in metres, by its centimetres: one to four digits, perhaps a point and one or two digits
+pub record Metres (text : List ℕ) (centimetres : ℕ) : Type 0 where
+  pub whole : List ℕ
+  pub fraction : List ℕ
+  pub joined : text ≡ whole ++ pointed fraction
+  pub whole-digits : All (λ b. is-digit b ≡ true) whole
+  pub whole-one : 1 ≤ length whole
+  pub whole-four : length whole ≤ 4
+  pub fraction-digits : All (λ b. is-digit b ≡ true) fraction
+  pub fraction-two : length fraction ≤ 2
+  pub value : centimetres ≡ decimal-of whole * 100 + decimal-of fraction * 10 ^ (2 - length fraction)
+
+-- at most one more field, whatever it holds
+abbrev pub OneField : List ℕ → Type 0
+OneField rest = (rest ≡ []) ⊎ ((text : List ℕ) × (rest ≡ 44 ∷ text) × All (λ b. b ≡ 44 → ⊥) text)
+
+-- a depth sentence: DPT after the sounder, then the depth, the offset of the keel with its minus, and
+-- perhaps a third field; the clearance is the depth less the offset
+pub record DepthSentence (bytes sounder : List ℕ) (clearance : ℤ) : Type 0 where
+  pub depth : List ℕ
+  pub offset : List ℕ
+  pub rest : List ℕ
+  pub deep : ℕ
+  pub keel : ℕ
+  pub sounder-two : length sounder ≡ 2
+  pub sentence : Sentence bytes (sounder ++ (68 ∷ 80 ∷ 84 ∷ [])) (44 ∷ (depth ++ (44 ∷ 45 ∷ (offset ++ rest))))
+  pub depth-metres : Metres depth deep
+  pub offset-metres : Metres offset keel
+  pub rest-one : OneField rest
+  pub value : clearance ≡ pos deep -ℤ pos keel

@@ -1,8 +1,8 @@
 -- Where a sentence's shape goes wrong, byte by byte.
-use mathlib.Core.Bool.{Bool, true, false, cond, _||_}
+use mathlib.Core.Bool.{cond}
 use mathlib.Core.List.{List, [], _∷_}
 use Prim.Native.Nat.{ℕ, _+_, _-_}
-use lib.Dec.{eqb}
+use lib.Dec.{eqb, ltb}
 use Rattle.std.specs.declared.option.Option.{Option}
 use Rattle.std.specs.declared.option.Option.the-variants.{Some, None}
 use Rattle.sentences.specs.Bytes.{is-address-byte, is-field-byte, is-hex-digit}
@@ -29,11 +29,11 @@ end-fault HighDigit column = Some column
 end-fault LowDigit column = Some column
 end-fault End column = None
 
--- the first wrong column of bytes that begin at `column`, where `e` is expected; column 81 is always wrong
+-- the first wrong column of bytes that begin at `column`, where `e` is expected; no byte is right past column 80
 abbrev pub fault-from : Expect → ℕ → List ℕ → Option ℕ
 fault-from e column [] = end-fault e column
 fault-from e column (b ∷ bs) =
-    cond (eqb column 81) (Some column) (elim (after e b) [ None ↦ Some column | Some next ↦ fault-from next (column + 1) bs ])
+    cond (ltb 80 column) (Some column) (elim (after e b) [ None ↦ Some column | Some next ↦ fault-from next (column + 1) bs ])
 
 -- the first wrong column of a sentence
 abbrev pub shape-fault : List ℕ → Option ℕ

@@ -1,21 +1,23 @@
+//! Why bytes are refused.
+
 ghost use mathlib.Core.Path.{_≡_};
 ghost use Rattle.sentences.specs.Refusals.{column-of, number-of};
 
-// Why bytes are no depth sentence. Columns count from 1.
+/// Why bytes are refused, with the column that shows it. Columns count from 1.
 #[derive(Clone, Copy, PartialEq, Eq, Debug)]
 pub enum SentenceError {
-    // the first wrong column, or the one after the end where bytes are missing
+    /// The first wrong column, or the one after the end where bytes are missing.
     Shape { column: usize },
-    // the checksum's first digit
+    /// The sum is another; the column of the checksum's first digit.
     Checksum { column: usize },
-    // the address names no depth sentence
+    /// The address does not end in DPT.
     NotDepth,
-    // the start of the field that keeps the clearance from being read
+    /// The start of the field that keeps the clearance from being read.
     NoClearance { column: usize },
 }
 
 impl SentenceError {
-    // The refusal's number.
+    /// The refusal's number, 12 to 15.
     pub fn number(&self) -> u8
         ensures { λ r. ⌜ r ≡ number-of (now (self .entry)) ⌝ }
     {
@@ -27,7 +29,7 @@ impl SentenceError {
         }
     }
 
-    // The column that the refusal points at.
+    /// The column that the refusal points at.
     pub fn column(&self) -> usize
         ensures { λ r. ⌜ r ≡ column-of (now (self .entry)) ⌝ }
     {

@@ -1,16 +1,17 @@
+//! The fields of a depth sentence, and the clearance that they give.
+
 ghost use mathlib.Core.Path.{_≡_};
-ghost use mathlib.Core.Bool.{true};
-ghost use Prim.Native.Nat.{ℕ, _+_, _-_, _*_, _<_, _≤_};
+ghost use Prim.Native.Nat.{_+_, _-_, _<_, _≤_};
 ghost use denote.Ref.{now as held};
 ghost use lib.ListN.{length};
-ghost use Rattle.std.specs.Options.{mapped, Cases as BySome};
+ghost use Rattle.std.specs.Options.{mapped};
+ghost use Rattle.std.specs.Slices.{found};
 ghost use Rattle.std.specs.shelf.Lists.{leading};
-ghost use Rattle.sentences.specs.Bytes.{is-digit};
 ghost use Rattle.sentences.specs.Fields.{is-of, next-field, decimal-few, hundredths-of, metres-of, keel-of, extra-of, clearance-of};
 use crate::error::SentenceError;
 
 // The column where the fields of a sentence begin.
-pub(crate) const FIELDS_AT: usize = 7;
+const FIELDS_AT: usize = 7;
 
 // The bytes that a run is made of.
 #[derive(Clone, Copy)]
@@ -45,7 +46,7 @@ fn run_length(run: Run, text: &[u8]) -> usize
 // The text of the field that a comma begins, and what follows it.
 fn next_field(fields: &[u8]) -> Option<(&[u8], &[u8])>
     ensures value { λ r. ⌜ mapped (λ p. (held (p .0), held (p .1))) r ≡ next-field (now (fields .entry)) ⌝ }
-    ensures lengths { λ r. ⌜ BySome r (0 ≤ 1) (λ p. 1 + length (held (p .0)) + length (held (p .1)) ≡ length (now (fields .entry))) ⌝ }
+    ensures lengths { λ r. ⌜ found r (λ p. 1 + length (held (p .0)) + length (held (p .1)) ≡ length (now (fields .entry))) ⌝ }
 {
     let [_, rest @ ..] = fields else {
         return None;
@@ -62,7 +63,7 @@ fn digit_value(byte: u8) -> u32
 // One to four digits as a number.
 fn decimal(digits: &[u8]) -> Option<u32>
     ensures value { λ r. ⌜ r ≡ decimal-few (now (digits .entry)) ⌝ }
-    ensures bound { λ r. ⌜ BySome r (0 ≤ 1) (λ n. n ≤ 230000) ⌝ }
+    ensures bound { λ r. ⌜ found r (λ n. n ≤ 230000) ⌝ }
 {
     match digits {
         [a] => Some(digit_value(*a)),
@@ -78,7 +79,7 @@ fn decimal(digits: &[u8]) -> Option<u32>
 // What stands after the whole metres: nothing, or a point and one or two digits.
 fn hundredths(text: &[u8]) -> Option<u32>
     ensures value { λ r. ⌜ r ≡ hundredths-of (now (text .entry)) ⌝ }
-    ensures bound { λ r. ⌜ BySome r (0 ≤ 1) (λ n. n ≤ 100) ⌝ }
+    ensures bound { λ r. ⌜ found r (λ n. n ≤ 100) ⌝ }
 {
     match text {
         [] => Some(0),
@@ -93,7 +94,7 @@ fn hundredths(text: &[u8]) -> Option<u32>
 // A number in metres, in centimetres.
 fn metres(text: &[u8]) -> Option<u32>
     ensures value { λ r. ⌜ r ≡ metres-of (now (text .entry)) ⌝ }
-    ensures bound { λ r. ⌜ BySome r (0 ≤ 1) (λ n. n ≤ 23000100) ⌝ }
+    ensures bound { λ r. ⌜ found r (λ n. n ≤ 23000100) ⌝ }
 {
     let (digits, rest) = text.split_at(run_length(Run::Digits, text));
     let whole = decimal(digits)?;
@@ -104,12 +105,12 @@ fn metres(text: &[u8]) -> Option<u32>
 // How far the keel is below the transducer: an offset is written with a minus.
 fn keel(text: &[u8]) -> Option<u32>
     ensures value { λ r. ⌜ r ≡ keel-of (now (text .entry)) ⌝ }
-    ensures bound { λ r. ⌜ BySome r (0 ≤ 1) (λ n. n ≤ 23000100) ⌝ }
+    ensures bound { λ r. ⌜ found r (λ n. n ≤ 23000100) ⌝ }
 {
-    match text {
-        [b'-', rest @ ..] => metres(rest),
-        _ => None,
-    }
+    let [b'-', rest @ ..] = text else {
+        return None;
+    };
+    metres(rest)
 }
 
 // The column of a fourth field, where there is one.

@@ -1,5 +1,8 @@
+//! Where the shape of a sentence goes wrong.
+
 ghost use mathlib.Core.Path.{_≡_};
 ghost use Prim.Native.Nat.{_≤_};
+ghost use lib.Dec.{ltb};
 ghost use lib.ListN.{length};
 ghost use Rattle.std.specs.declared.option.Option.the-variants.{None};
 ghost use Rattle.sentences.specs.Bytes.{is-address-byte, is-field-byte, is-hex-digit};
@@ -63,6 +66,13 @@ fn next(expect: Expect, byte: u8) -> Option<Expect>
     }
 }
 
+// Whether a column lies past the longest sentence's end.
+fn is_past_limit(column: usize) -> bool
+    ensures { λ r. ⌜ r ≡ ltb 80 column ⌝ }
+{
+    column > LONGEST
+}
+
 // The column after the last byte, where more was expected.
 fn end_fault(expect: Expect, column: usize) -> Option<usize>
     ensures { λ r. ⌜ r ≡ end-fault expect column ⌝ }
@@ -80,11 +90,12 @@ pub(crate) fn shape_fault(bytes: &[u8]) -> Option<usize>
 {
     let mut expect = Expect::Dollar;
     for (i, byte) in bytes.iter().enumerate() {
-        if i == LONGEST {
-            return Some(i + 1);
+        let column = i + 1;
+        if is_past_limit(column) {
+            return Some(column);
         }
         let Some(following) = next(expect, *byte) else {
-            return Some(i + 1);
+            return Some(column);
         };
         expect = following;
     }

@@ -1,12 +1,12 @@
-ghost use mathlib.Core.Path.{_≡_};
-ghost use lib.Bits.{bitXor};
-ghost use Rattle.std.specs.Iters.{folded};
-ghost use Rattle.sentences.specs.Bytes.{hex-digit};
-ghost use Prim.Native.Nat.{_<_};
+//! The checksum, and how it is written.
 
-// The exclusive or of all bytes of a part.
+ghost use mathlib.Core.Path.{_≡_};
+ghost use Prim.Native.Nat.{_<_};
+ghost use Rattle.sentences.specs.Bytes.{hex-digit, sum-of};
+
+/// The checksum of a part of a sentence: the exclusive or of its bytes.
 pub fn checksum(part: &[u8]) -> u8
-    ensures { λ r. ⌜ r ≡ folded bitXor 0 (now (part .entry)) ⌝ }
+    ensures { λ r. ⌜ r ≡ sum-of (now (part .entry)) ⌝ }
 {
     let mut sum = 0;
     for byte in part {

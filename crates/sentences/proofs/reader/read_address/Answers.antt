@@ -1,5 +1,14 @@
 use Rattle.sentences.proofs.Decided.{address-decided}
+use Rattle.sentences.proofs.Laws.{address-exactly, address-first-wrong}
 use Rattle.sentences.proofs.reader.read_address.Needs as need
 
 pub returns : need.returns
-returns c = record { value = c .parse-address .ensures .value; decided = address-decided (c .args .bytes .now) }
+returns c =
+    let bytes = c .args .bytes .now in
+    let value = c .parse-address .ensures .value in
+    record {
+      value = value;
+      exactly = address-exactly bytes _ value;
+      wrong = address-first-wrong bytes _ value;
+      decided = address-decided bytes;
+    }

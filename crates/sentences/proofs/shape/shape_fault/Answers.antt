@@ -6,6 +6,7 @@ use lib.ListN.{length, drop, getD}
 use Rattle.std.specs.declared.option.Option.{Option}
 use Rattle.std.specs.declared.option.Option.the-variants.{None}
 use Rattle.std.proofs.shelf.Lists.{at-drop-more, at-drop-all}
+use Rattle.std.proofs.shelf.Tests.{ltb-true, ltb-false}
 use Rattle.sentences.specs.Shape.{end-fault, fault-from, shape-fault}
 use Rattle.sentences.proofs.Faults.{shape-lengths}
 use Rattle.sentences.proofs.Scans.{byte-over, byte-wrong, byte-right}
@@ -15,13 +16,13 @@ use Rattle.sentences.proofs.shape.shape_fault.Needs as need
 pinned : (xs : List ℕ) (r : Option ℕ) → r ≡ shape-fault xs → (value : r ≡ shape-fault xs) × (r ≡ None → (9 ≤ length xs) × (length xs ≤ 80))
 pinned xs r is = (is, λ none. shape-lengths xs (sym is ∙ none))
 
-pub returns-then-i-eq-LONGEST : need.returns-then-i-eq-LONGEST
-returns-then-i-eq-LONGEST c =
+pub returns-then-is-past-limit : need.returns-then-is-past-limit
+returns-then-is-past-limit c =
     let xs = c .args .bytes .now in
     let i = c .loop-i .i in
     let e = c .loop-i .expect in
     let at = at-drop-more (fault-from e (i + 1)) xs i 0 (c .loop-i-test .taken) in
-    let r = pinned xs _ (sym (at ∙ byte-over e (i + 1) (getD xs i 0) (drop (i + 1) xs) (omega arith)) ∙ c .loop-i .inv) in
+    let r = pinned xs _ (sym (at ∙ byte-over e (i + 1) (getD xs i 0) (drop (i + 1) xs) (ltb-true 80 (i + 1) (sym (c .if-is-past-limit .ensures tt)))) ∙ c .loop-i .inv) in
     record { value = r .0; lengths = r .1 }
 
 pub returns-in-rest : need.returns-in-rest
@@ -31,7 +32,7 @@ returns-in-rest c =
     let e = c .loop-i .expect in
     let at = at-drop-more (fault-from e (i + 1)) xs i 0 (c .loop-i-test .taken) in
     let wrong = sym (c .next .ensures) ∙ c .in-rest .is in
-    let r = pinned xs _ (sym (at ∙ byte-wrong e (i + 1) (getD xs i 0) (drop (i + 1) xs) (omega arith) wrong) ∙ c .loop-i .inv) in
+    let r = pinned xs _ (sym (at ∙ byte-wrong e (i + 1) (getD xs i 0) (drop (i + 1) xs) (ltb-false 80 (i + 1) (sym (c .if-is-past-limit .ensures tt))) wrong) ∙ c .loop-i .inv) in
     record { value = r .0; lengths = r .1 }
 
 pub loop-i-again : need.loop-i-again
@@ -41,7 +42,7 @@ loop-i-again c =
     let e = c .loop-i .expect in
     let at = at-drop-more (fault-from e (i + 1)) xs i 0 (c .loop-i-test .taken) in
     let right = sym (c .next .ensures) ∙ c .in-Some .is in
-    sym (at ∙ byte-right e (i + 1) (getD xs i 0) (drop (i + 1) xs) (c .in-Some .following) (omega arith) right) ∙ c .loop-i .inv
+    sym (at ∙ byte-right e (i + 1) (getD xs i 0) (drop (i + 1) xs) (c .in-Some .following) (ltb-false 80 (i + 1) (sym (c .if-is-past-limit .ensures tt))) right) ∙ c .loop-i .inv
 
 pub returns : need.returns
 returns c =
