@@ -1,5 +1,5 @@
 -- The bytes that a cutter keeps, beside all the bytes of the line.
-use mathlib.Core.Bool.{true, false}
+use mathlib.Core.Bool.{Bool, true, false, cond, _&&_}
 use mathlib.Core.List.{List, [], _∷_, _++_, map}
 use mathlib.Core.Logic.{⊎-elim}
 use mathlib.Core.Path.{_≡_, refl, sym, ap, _∙_}
@@ -10,8 +10,8 @@ use lib.ListN.{length, take, set, getD}
 use Rattle.std.specs.Vec.{listOf}
 use Rattle.std.specs.declared.option.Option.the-variants.{Some}
 use Rattle.std.proofs.shelf.Lists.{length-take, length-take-le, length-push, getD-take, getD-past, take-all, take-take, take-append-le, take-more-set}
-use Rattle.std.proofs.shelf.Tests.{cases-lt, lt-ltb, le-ltb, eq-eqb, ne-eqb, cond-both}
-use Rattle.lines.specs.Kept.{keep-byte, line-of, last-of}
+use Rattle.std.proofs.shelf.Tests.{both-ways, cases-eq, cases-lt, lt-ltb, le-ltb, ltb-true, eq-eqb, ne-eqb, eqb-true, and-parts, and-from, cond-both}
+use Rattle.lines.specs.Kept.{keep-byte, line-length, line-of, last-of}
 use Rattle.lines.specs.Lines.{but-last, ends-in-cr, without-cr, shown, last-line}
 
 -- The bytes of a line, however many: what of them is kept, and what is handed out.
@@ -58,10 +58,10 @@ module _ (bytes : List ℕ) (n : ℕ) (within : n ≤ length bytes) where
   pub kept-full : (b : ℕ) → 82 ≤ n → take n bytes ≡ keep-byte (take n bytes) b
   kept-full b many = rw (length-take-le n bytes within) (rw (le-ltb n 82 many) refl)
 
-  pub line-of-many : n ≡ 82 → take 81 bytes ≡ line-of (take n bytes)
+  line-of-many : n ≡ 82 → take 81 bytes ≡ line-of (take n bytes)
   line-of-many many = rw (length-take-le n bytes within) (rw (le-ltb n 82 (omega arith)) (sym (take-take 81 n bytes (omega arith))))
 
-  pub line-of-cr : n < 82 → 0 < n → getD bytes (n - 1) 0 ≡ 13 → take (n - 1) bytes ≡ line-of (take n bytes)
+  line-of-cr : n < 82 → 0 < n → getD bytes (n - 1) 0 ≡ 13 → take (n - 1) bytes ≡ line-of (take n bytes)
   line-of-cr less some cr =
       let test : eqb (getD (take n bytes) (n - 1) 0) 13 ≡ true = eq-eqb _ 13 (getD-take n bytes (n - 1) 0 (omega arith) ∙ cr) in
       rw (length-take-le n bytes within) (rw (lt-ltb n 82 less) (rw test (sym (take-take (n - 1) n bytes (omega arith)))))
@@ -73,8 +73,22 @@ module _ (bytes : List ℕ) (n : ℕ) (within : n ≤ length bytes) where
       (λ (none : n ≤ 0). λ cr. omega (arith, cr, getD-past (take n bytes) (n - 1) 0 (omega (arith, length-take-le n bytes within))))
       (cases-lt 0 n)
 
-  pub line-of-other : n < 82 → (0 < n → getD bytes (n - 1) 0 ≡ 13 → ⊥) → take n bytes ≡ line-of (take n bytes)
+  line-of-other : n < 82 → (0 < n → getD bytes (n - 1) 0 ≡ 13 → ⊥) → take n bytes ≡ line-of (take n bytes)
   line-of-other less other = rw (length-take-le n bytes within) (rw (lt-ltb n 82 less) (rw (ne-eqb _ 13 (last-byte other)) refl))
+
+  pub line-of-length : n ≤ 82 → take (line-length bytes n) bytes ≡ line-of (take n bytes)
+  line-of-length most =
+      ⊎-elim
+      (λ (many : n ≡ 82). rw (eq-eqb n 82 many) (line-of-many many))
+      (λ (few : n ≡ 82 → ⊥). rw (ne-eqb n 82 few) (by (omega arith) (ltb 0 n && eqb (getD bytes (n - 1) 0) 13) refl))
+      (cases-eq n 82)
+    where
+      by : n < 82 → (t : Bool) → (ltb 0 n && eqb (getD bytes (n - 1) 0) 13) ≡ t → take (cond t (n - 1) n) bytes ≡ line-of (take n bytes)
+      by less true is =
+          let both = and-parts (ltb 0 n) (eqb (getD bytes (n - 1) 0) 13) is in
+          line-of-cr less (ltb-true 0 n (both .0)) (eqb-true (getD bytes (n - 1) 0) 13 (both .1))
+      by less false is =
+          line-of-other less (λ some cr. both-ways _ is (and-from _ _ (lt-ltb 0 n some) (eq-eqb (getD bytes (n - 1) 0) 13 cr)))
 
   take-min : (m : ℕ) → take m (take n bytes) ≡ take (min n m) bytes
   take-min m =

@@ -1,3 +1,2 @@
 pub mod Cuts
 pub mod Keeps
-pub mod Pieces

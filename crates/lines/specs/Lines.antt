@@ -58,16 +58,6 @@ abbrev pub lines-from : List ℕ → List ℕ → List Line
 lines-from raw [] = last-line raw
 lines-from raw (b ∷ bs) = cond (eqb b 10) (ended-line raw ∷ lines-from [] bs) (lines-from (raw ++ b ∷ []) bs)
 
--- Of those, the lines that an LF ends.
-abbrev pub ended-from : List ℕ → List ℕ → List Line
-ended-from raw [] = []
-ended-from raw (b ∷ bs) = cond (eqb b 10) (ended-line raw ∷ ended-from [] bs) (ended-from (raw ++ b ∷ []) bs)
-
--- The bytes since the last LF once more of an input has come.
-abbrev pub under-way : List ℕ → List ℕ → List ℕ
-under-way raw [] = raw
-under-way raw (b ∷ bs) = cond (eqb b 10) (under-way [] bs) (under-way (raw ++ b ∷ []) bs)
-
 -- The lines of an input.
 abbrev pub lines-of : List ℕ → List Line
 lines-of input = lines-from [] input
@@ -92,7 +82,3 @@ Cut-right = (input : List ℕ) → Cut input (lines-of input)
 -- An input has one right cut.
 abbrev pub Cut-once : Type 0
 Cut-once = (input : List ℕ) (xs ys : List Line) → Cut input xs → Cut input ys → xs ≡ ys
-
--- An input may come in pieces: the lines that an LF ends in the first piece, and then the lines of the next with the bytes that were left.
-abbrev pub Cut-in-pieces : Type 0
-Cut-in-pieces = (raw bs more : List ℕ) → lines-from raw (bs ++ more) ≡ ended-from raw bs ++ lines-from (under-way raw bs) more

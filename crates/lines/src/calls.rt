@@ -1,8 +1,11 @@
-ghost use Prim.Native.Nat.{ℕ};
+//! The calls of a cutter.
+
+ghost use Prim.Native.Nat.{ℕ, _+_, _<_, _≤_, min};
+ghost use lib.ListN.{set};
 ghost use mathlib.Core.List.{List, [], _∷_, _++_, map};
 ghost use mathlib.Core.Path.{_≡_};
-ghost use Rattle.lines.specs.Kept.{kept, keep-byte, line-of, last-of, After};
-ghost use Rattle.lines.specs.Lines.{shown, ended-line, last-line, Cut-right, Cut-once, Cut-in-pieces};
+ghost use Rattle.lines.specs.Kept.{kept, keep-byte, line-length, line-of, last-of, After};
+ghost use Rattle.lines.specs.Lines.{shown, ended-line, last-line, Cut-right, Cut-once};
 ghost use Rattle.std.specs.Options.{mapped};
 ghost use Rattle.std.specs.Vec.{listOf};
 use super::CR;
@@ -11,18 +14,55 @@ use super::KEPT;
 use super::SHOWN;
 
 impl Cutter {
+    fn empty() -> Cutter
+        ensures { λ r. ⌜ r .len ≡ 0 ⌝ }
+    {
+        Cutter {
+            bytes: [0; KEPT],
+            len: 0,
+        }
+    }
+
+    // Puts a byte behind those that are kept.
+    fn store(&mut self, byte: u8)
+        requires { ⌜ now self .len < 82 ⌝ }
+        ensures bytes { λ _. ⌜ now (self .exit) .bytes ≡ set (now (self .entry) .bytes) (now (self .entry) .len) byte ⌝ }
+        ensures len { λ _. ⌜ now (self .exit) .len ≡ now (self .entry) .len + 1 ⌝ }
+    {
+        self.bytes[self.len] = byte;
+        self.len += 1;
+    }
+
+    // How many of the bytes are handed out of a line that an LF ends: a CR before the LF is none of them.
+    fn line_length(&self) -> usize
+        ensures value { λ r. ⌜ r ≡ line-length (now (self .entry) .bytes) (now (self .entry) .len) ⌝ }
+        ensures within { λ r. ⌜ r ≤ now (self .entry) .len ⌝ }
+    {
+        if self.len == KEPT {
+            SHOWN
+        } else if self.len > 0 && self.bytes[self.len - 1] == CR {
+            self.len - 1
+        } else {
+            self.len
+        }
+    }
+
+    // How many of the bytes are handed out of a last line.
+    fn last_length(&self) -> usize
+        ensures value { λ r. ⌜ r ≡ min (now (self .entry) .len) 81 ⌝ }
+        ensures within { λ r. ⌜ r ≤ now (self .entry) .len ⌝ }
+    {
+        self.len.min(SHOWN)
+    }
+
     /// A cutter at the start of a line.
     pub fn new() -> Cutter
         ensures empty { λ r. ⌜ kept r ≡ [] ⌝ }
         ensures after { λ r. ⌜ After r [] ⌝ }
         ensures right { λ _. ⌜ Cut-right ⌝ }
         ensures once { λ _. ⌜ Cut-once ⌝ }
-        ensures pieces { λ _. ⌜ Cut-in-pieces ⌝ }
     {
-        Cutter {
-            bytes: [0; KEPT],
-            len: 0,
-        }
+        Cutter::empty()
     }
 
     /// Takes one more byte of the line under way.
@@ -31,8 +71,7 @@ impl Cutter {
         ensures after { λ _. ⌜ ((raw : List ℕ) → After (now (self .entry)) raw → After (now (self .exit)) (raw ++ byte ∷ [])) ⌝ }
     {
         if self.len < KEPT {
-            self.bytes[self.len] = byte;
-            self.len += 1;
+            self.store(byte);
         }
     }
 
@@ -41,13 +80,8 @@ impl Cutter {
         ensures value { λ r. ⌜ now r ≡ line-of (kept (now (self .entry))) ⌝ }
         ensures text { λ r. ⌜ ((raw : List ℕ) → After (now (self .entry)) raw → now r ≡ shown (ended-line raw)) ⌝ }
     {
-        if self.len == KEPT {
-            &self.bytes[0..SHOWN]
-        } else if self.len > 0 && self.bytes[self.len - 1] == CR {
-            &self.bytes[0..self.len - 1]
-        } else {
-            &self.bytes[0..self.len]
-        }
+        let count = self.line_length();
+        &self.bytes[0..count]
     }
 
     /// The first 81 bytes of the last line, where the input ends with no LF after it; none where no byte came since the last LF.
@@ -56,10 +90,10 @@ impl Cutter {
         ensures text { λ r. ⌜ ((raw : List ℕ) → After (now (self .entry)) raw → listOf (mapped now r) ≡ map shown (last-line raw)) ⌝ }
     {
         if self.len == 0 {
-            None
-        } else {
-            Some(&self.bytes[0..self.len.min(SHOWN)])
+            return None;
         }
+        let count = self.last_length();
+        Some(&self.bytes[0..count])
     }
 
     /// Begins the next line.

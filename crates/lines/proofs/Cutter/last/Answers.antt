@@ -6,7 +6,7 @@ use Rattle.lines.specs.Kept.{last-of}
 use Rattle.lines.proofs.Keeps.{last-of-take, last-of-some}
 use Rattle.lines.proofs.Cutter.last.Needs as need
 
-pub returns-else-self-eq0 : need.returns-else-self-eq0
-returns-else-self-eq0 c =
+pub returns : need.returns
+returns c =
     let value = last-of-some (c .args .self .now .bytes) (c .args .self .now .len) (omega arith) (omega arith) in
-    record { value = simp (sub-zero, c .min .ensures) value; text = λ raw after. simp (sub-zero, c .min .ensures) (ap listOf (value ∙ ap last-of after) ∙ last-of-take raw) }
+    record { value = simp (sub-zero, c .last-length-count .ensures .value) value; text = λ raw after. simp (sub-zero, c .last-length-count .ensures .value) (ap listOf (value ∙ ap last-of after) ∙ last-of-take raw) }

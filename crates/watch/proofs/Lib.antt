@@ -1,0 +1,2 @@
+mod Folds
+mod Reports

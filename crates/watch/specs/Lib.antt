@@ -1,0 +1,3 @@
+pub mod Printed
+pub mod Report
+pub mod Progress
