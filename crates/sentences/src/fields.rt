@@ -1,7 +1,7 @@
 //! The fields of a depth sentence, and the clearance that they give.
 
 ghost use mathlib.Core.Path.{_≡_};
-ghost use Prim.Native.Nat.{_+_, _-_, _<_, _≤_};
+ghost use Prim.Native.Nat.{_+_, _-_, _^_, _<_, _≤_};
 ghost use denote.Ref.{now as held};
 ghost use lib.ListN.{length};
 ghost use Rattle.std.specs.Options.{mapped};
@@ -21,6 +21,7 @@ enum Run {
     Field,
 }
 
+// Whether a byte is one of a run.
 fn belongs(run: Run, byte: u8) -> bool
     ensures { λ r. ⌜ r ≡ is-of run byte ⌝ }
 {
@@ -54,6 +55,7 @@ fn next_field(fields: &[u8]) -> Option<(&[u8], &[u8])>
     Some(rest.split_at(run_length(Run::Field, rest)))
 }
 
+// What a digit is worth.
 fn digit_value(byte: u8) -> u32
     ensures { λ r. ⌜ r ≡ byte - 48 ⌝ }
 {
@@ -115,7 +117,7 @@ fn keel(text: &[u8]) -> Option<u32>
 
 // The column of a fourth field, where there is one.
 fn extra(column: usize, rest: &[u8]) -> Option<usize>
-    requires { ⌜ column + length (now rest) < 1000 ⌝ }
+    requires { ⌜ column + length (now rest) < 2 ^ 63 + 80 ⌝ }
     ensures { λ r. ⌜ r ≡ extra-of column (now (rest .entry)) ⌝ }
 {
     let (third, more) = next_field(rest)?;
@@ -127,7 +129,6 @@ fn extra(column: usize, rest: &[u8]) -> Option<usize>
 
 // The clearance in centimetres that the fields give.
 pub(crate) fn clearance(fields: &[u8]) -> Result<i32, SentenceError>
-    requires { ⌜ length (now fields) ≤ 80 ⌝ }
     ensures { λ r. ⌜ r ≡ clearance-of 7 (now (fields .entry)) ⌝ }
 {
     let column = FIELDS_AT;

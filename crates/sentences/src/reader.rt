@@ -12,7 +12,7 @@ use crate::error::SentenceError;
 use crate::fields::clearance;
 use crate::shape::shape_fault;
 use crate::sums::checksum;
-use crate::sums::hex_digit;
+use crate::sums::hex_digits;
 
 /// The five bytes after the `$`: who speaks, in two, and the kind of sentence, in three.
 #[derive(Clone, Copy, PartialEq, Eq, Debug)]
@@ -35,7 +35,8 @@ fn has_right_sum(bytes: &[u8]) -> bool
 {
     let len = bytes.len();
     let sum = checksum(&bytes[1..len - 3]);
-    bytes[len - 2] == hex_digit(sum / 16) && bytes[len - 1] == hex_digit(sum % 16)
+    let [high, low] = hex_digits(sum);
+    bytes[len - 2] == high && bytes[len - 1] == low
 }
 
 // What `read_address` answers.

@@ -26,18 +26,21 @@ enum Expect {
     End,
 }
 
+// Capitals and digits.
 fn is_address_byte(byte: u8) -> bool
     ensures { λ r. ⌜ r ≡ is-address-byte byte ⌝ }
 {
     byte.is_ascii_digit() || byte.is_ascii_uppercase()
 }
 
+// Printable ASCII without `$`, `!` and `*`.
 fn is_field_byte(byte: u8) -> bool
     ensures { λ r. ⌜ r ≡ is-field-byte byte ⌝ }
 {
     0x20 <= byte && byte <= 0x7E && byte != b'$' && byte != b'!' && byte != b'*'
 }
 
+// Digits and the letters A to F, as capitals.
 fn is_hex_digit(byte: u8) -> bool
     ensures { λ r. ⌜ r ≡ is-hex-digit byte ⌝ }
 {

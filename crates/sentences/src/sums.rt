@@ -2,7 +2,7 @@
 
 ghost use mathlib.Core.Path.{_≡_};
 ghost use Prim.Native.Nat.{_<_};
-ghost use Rattle.sentences.specs.Bytes.{hex-digit, sum-of};
+ghost use Rattle.sentences.specs.Bytes.{hex-digit, hex-text, sum-of};
 
 /// The checksum of a part of a sentence: the exclusive or of its bytes.
 pub fn checksum(part: &[u8]) -> u8
@@ -16,7 +16,7 @@ pub fn checksum(part: &[u8]) -> u8
 }
 
 // The hexadecimal digit of a number below 16, letters as capitals.
-pub(crate) fn hex_digit(value: u8) -> u8
+fn hex_digit(value: u8) -> u8
     requires { ⌜ value < 16 ⌝ }
     ensures { λ r. ⌜ r ≡ hex-digit value ⌝ }
 {
@@ -25,4 +25,11 @@ pub(crate) fn hex_digit(value: u8) -> u8
     } else {
         b'A' - 10 + value
     }
+}
+
+// A byte in two hexadecimal digits.
+pub(crate) fn hex_digits(byte: u8) -> [u8; 2]
+    ensures { λ r. ⌜ r ≡ hex-text byte ⌝ }
+{
+    [hex_digit(byte / 16), hex_digit(byte % 16)]
 }

@@ -1,6 +1,6 @@
 use mathlib.Core.Path.{_≡_, ap, _∙_}
 use native.Mathlib.Omega.{arith}
-use lib.ListN.{take, set}
+use lib.ListN.{take}
 use Rattle.lines.specs.Kept.{kept, keep-byte}
 use Rattle.lines.proofs.Keeps.{keep-byte-take, kept-more, kept-full}
 use Rattle.lines.proofs.Cutter.keep.Needs as need

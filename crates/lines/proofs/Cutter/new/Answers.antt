@@ -1,6 +1,5 @@
 use mathlib.Core.Path.{_≡_, ap}
-use mathlib.Core.List.{List, []}
-use Prim.Native.Nat.{ℕ}
+use mathlib.Core.List.{[]}
 use lib.ListN.{take}
 use Rattle.lines.specs.Kept.{kept}
 use Rattle.lines.proofs.Cuts.{right, once}
