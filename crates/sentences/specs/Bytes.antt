@@ -1,4 +1,6 @@
 -- The kinds of byte that a sentence is made of.
+-- A byte is a number: 33 is `!`, 36 `$`, 42 `*`, 44 the comma, 45 the minus, 46 the point, 48 to 57 the digits,
+-- 65 to 90 the capitals.
 use mathlib.Core.Bool.{Bool, cond, not, _&&_, _||_}
 use mathlib.Core.List.{List, [], _∷_}
 use Prim.Native.Nat.{ℕ, _+_, _/_, _%_}
@@ -6,6 +8,7 @@ use lib.Bits.{bitXor}
 use lib.Dec.{eqb, leb, ltb}
 use Rattle.std.specs.Iters.{folded}
 
+-- a decimal digit
 abbrev pub is-digit : ℕ → Bool
 is-digit b = leb 48 b && leb b 57
 

@@ -1,4 +1,5 @@
 -- The fields of a depth sentence, and the clearance that they give.
+-- Of the bytes, 44 is the comma, 45 the minus, 46 the point, 48 the digit 0.
 use mathlib.Core.Bool.{Bool, cond, not, _&&_}
 use mathlib.Core.List.{List, [], _∷_}
 use Prim.Native.Nat.{ℕ, _+_, _-_, _*_}
@@ -54,12 +55,12 @@ abbrev pub keel-of : List ℕ → Option ℕ
 keel-of [] = None
 keel-of (sign ∷ text) = cond (eqb sign 45) (metres-of text) None
 
--- the column of a fourth field, where one follows a third that begins at `column`
+-- the column of a fourth field, where one follows a third whose comma stands at `column`
 abbrev pub fourth-at : ℕ → Option (List ℕ × List ℕ) → Option ℕ
 fourth-at column None = None
 fourth-at column (Some third) = cond (eqb (length (third .1)) 0) None (Some (column + 2 + length (third .0)))
 
--- the same in what follows the offset, whose comma would stand at `column`
+-- the same in what follows the offset, from `column` on
 abbrev pub extra-of : ℕ → List ℕ → Option ℕ
 extra-of column rest = fourth-at column (next-field rest)
 

@@ -1,4 +1,5 @@
 -- What a sentence is, by its parts: the parts joined are the bytes.
+-- Of the bytes, 36 is `$`, 42 `*`, 44 the comma, 45 the minus, 46 the point; 68, 80 and 84 are the letters of DPT.
 use mathlib.Core.Bool.{true}
 use mathlib.Core.List.{List, [], _∷_, _++_}
 use mathlib.Core.Logic.{_⊎_}
@@ -29,6 +30,7 @@ pub record Shaped (bytes address fields digits : List ℕ) : Type 0 where
   pub digits-two : length digits ≡ 2
   pub digits-hex : All (λ b. is-hex-digit b ≡ true) digits
 
+-- right shape, whatever the parts
 abbrev pub WellShaped : List ℕ → Type 0
 WellShaped bytes = (address : List ℕ) × (fields : List ℕ) × (digits : List ℕ) × Shaped bytes address fields digits
 

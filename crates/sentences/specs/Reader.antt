@@ -26,6 +26,7 @@ abbrev pub sum-right : List ℕ → Bool
 sum-right bytes =
     eqb (getD bytes (length bytes - 2) 0) (hex-digit (sentence-sum bytes / 16)) && eqb (getD bytes (length bytes - 1) 0) (hex-digit (sentence-sum bytes % 16))
 
+-- the five bytes after the `$`
 abbrev pub address-bytes : List ℕ → List ℕ
 address-bytes bytes = getD bytes 1 0 ∷ getD bytes 2 0 ∷ getD bytes 3 0 ∷ getD bytes 4 0 ∷ getD bytes 5 0 ∷ []
 
@@ -43,7 +44,7 @@ address-at None false bytes = Err (Checksum (length bytes - 1))
 abbrev pub address-of : List ℕ → Result Address SentenceError
 address-of bytes = address-at (shape-fault bytes) (sum-right bytes) bytes
 
--- the sounder, the first two bytes of an address that ends in DPT
+-- the sounder, the first two bytes of an address that ends in DPT (68, 80, 84)
 abbrev pub sounder-of : List ℕ → Option (List ℕ)
 sounder-of address =
     cond (eqb (getD address 2 0) 68 && (eqb (getD address 3 0) 80 && eqb (getD address 4 0) 84)) (Some (getD address 0 0 ∷ getD address 1 0 ∷ [])) None

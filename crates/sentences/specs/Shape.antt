@@ -1,4 +1,4 @@
--- Where a sentence's shape goes wrong, byte by byte.
+-- Where a sentence's shape goes wrong, byte by byte. Of the bytes, 36 is `$`, 42 `*`, 44 the comma.
 use mathlib.Core.Bool.{cond}
 use mathlib.Core.List.{List, [], _∷_}
 use Prim.Native.Nat.{ℕ, _+_, _-_}
