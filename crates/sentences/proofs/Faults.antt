@@ -41,19 +41,15 @@ not-ended HighDigit column c s = (sym (same-some s), λ r. let z : _≡_ {A = �
 not-ended LowDigit column c s = (sym (same-some s), λ r. let z : _≡_ {A = ℕ} 0 1 = cc in omega arith)
 not-ended End column c s = let z : _≡_ {A = ℕ} 0 1 = cc in absurd (omega arith)
 
+-- the scan stops at its first byte, or before one
+stopped : (e : Expect) (column : ℕ) (xs : List ℕ) (c : ℕ) → c ≡ column → column ≤ 81 → (0 < length xs → c ≤ 80 → run e (take 1 xs) ≡ None) → (0 ≡ length xs → run e xs ≡ Some End → ⊥) → Found e column xs c
+stopped e column xs c at low wrong short =
+    record { good = 0; place = omega arith; within = omega arith; limit = omega arith; led = e; leads = refl; wrong = wrong; short = short }
+
 found-at : (e : Expect) (column b : ℕ) (bs : List ℕ) (c : ℕ) → Stops bs → column ≤ 81 → column ≤ 80 → fault-from e column (b ∷ bs) ≡ Some c → (o : Option Expect) → after e b ≡ o → Found e column (b ∷ bs) c
 found-at e column b bs c again low under f None wrong =
     let at : c ≡ column = sym (same-some (sym (byte-wrong e column b bs under wrong) ∙ f)) in
-    record {
-      good = 0;
-      place = omega arith;
-      within = omega arith;
-      limit = omega arith;
-      led = e;
-      leads = refl;
-      wrong = λ _ _. run-wrong e b [] wrong;
-      short = λ z. absurd (omega arith);
-    }
+    stopped e column (b ∷ bs) c at low (λ _ _. run-wrong e b [] wrong) (λ z. absurd (omega arith))
 found-at e column b bs c again low under f (Some next) right =
     let rest = again next (column + 1) c (omega arith) (sym (byte-right e column b bs next under right) ∙ f) in
     record {
@@ -70,30 +66,12 @@ found-at e column b bs c again low under f (Some next) right =
 found : (xs : List ℕ) → Stops xs
 found [] e column c low f =
     let at = not-ended e column c f in
-    record {
-      good = 0;
-      place = omega arith;
-      within = omega arith;
-      limit = omega arith;
-      led = e;
-      leads = refl;
-      wrong = λ more. absurd (omega arith);
-      short = λ _ r. at .1 r;
-    }
+    stopped e column [] c (at .0) low (λ more. absurd (omega arith)) (λ _ r. at .1 r)
 found (b ∷ bs) e column c low f =
     ⊎-elim
     (λ (at : 80 < column).
     let here : c ≡ column = sym (same-some (sym (byte-over e column b bs at) ∙ f)) in
-    record {
-      good = 0;
-      place = omega arith;
-      within = omega arith;
-      limit = omega arith;
-      led = e;
-      leads = refl;
-      wrong = λ _ low. absurd (omega arith);
-      short = λ z. absurd (omega arith);
-    })
+    stopped e column (b ∷ bs) c here low (λ _ under. absurd (omega arith)) (λ z. absurd (omega arith)))
     (λ (under : column ≤ 80). found-at e column b bs c (found bs) low under f (after e b) refl)
     (cases-lt 80 column)
 
