@@ -1,0 +1,20 @@
+-- What is truly in a window. A window is a list of keys, oldest first; `alike` says which keys count as one. Assumes nothing.
+use mathlib.Core.Bool.{Bool, _&&_}
+use mathlib.Core.List.{List}
+use Prim.Native.Nat.{ℕ, _≤_}
+use lib.Dec.{ltb}
+use Rattle.std.specs.shelf.Lists.{countBy}
+use Rattle.likeness.specs.Agree.{same-sounder}
+use Rattle.likeness.specs.declared.sounding.SoundingKey.{SoundingKey}
+
+-- how many keys of the window are alike to k
+abbrev pub true-count : {K : Type 0} → (K → K → Bool) → List K → K → ℕ
+true-count alike window k = countBy (λ x. alike x k) window
+
+-- a key stands in the window when some key of the window is alike to it
+abbrev pub Stands : {K : Type 0} → (K → K → Bool) → List K → K → Type 0
+Stands alike window k = 1 ≤ true-count alike window k
+
+-- how many keys of the window are the sounder's with a band below the class: its readings that were too shallow for that class
+abbrev pub truly-short : List SoundingKey → List ℕ → ℕ → ℕ
+truly-short window sounder class = countBy (λ x. same-sounder (x .sounder) sounder && ltb (x .band .value) class) window

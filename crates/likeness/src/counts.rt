@@ -1,0 +1,42 @@
+//! Plain counts over a window that is there whole: what every answer is measured against.
+
+ghost use mathlib.Core.Path.{_≡_};
+ghost use mathlib.Core.Bool.{_&&_};
+ghost use Prim.Native.Nat.{ℕ, _≤_};
+ghost use lib.Dec.{ltb};
+ghost use lib.ListN.{length};
+ghost use Rattle.likeness.specs.Agree.{same-sounder};
+ghost use Rattle.likeness.specs.Counts.{true-count, truly-short};
+use crate::kind::Likeness;
+use crate::sounding::SoundingKey;
+
+/// How many keys of the window are alike to `key`.
+pub fn true_count<K: Likeness>(window: &[K], key: &K) -> usize
+    ensures value { λ r. ⌜ r ≡ true-count alike (now (window .entry)) (now (key .entry)) ⌝ }
+    ensures bound { λ r. ⌜ r ≤ length (now (window .entry)) ⌝ }
+{
+    let mut count = 0;
+    for other in window {
+        count += other.is_alike(key) as usize;
+    }
+    count
+}
+
+// Whether a reading is the sounder's and too shallow for the class.
+fn is_short(key: &SoundingKey, sounder: [u8; 2], class: u8) -> bool
+    ensures { λ r. ⌜ r ≡ (same-sounder (now (key .entry) .sounder) sounder && ltb (now (key .entry) .band .value) class) ⌝ }
+{
+    key.is_of(sounder) && key.band.value() < class
+}
+
+/// How many keys of the window are the sounder's, with a band below `class`.
+pub fn truly_short(window: &[SoundingKey], sounder: [u8; 2], class: u8) -> usize
+    ensures value { λ r. ⌜ r ≡ truly-short (now (window .entry)) sounder class ⌝ }
+    ensures bound { λ r. ⌜ r ≤ length (now (window .entry)) ⌝ }
+{
+    let mut count = 0;
+    for key in window {
+        count += is_short(key, sounder, class) as usize;
+    }
+    count
+}

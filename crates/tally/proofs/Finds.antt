@@ -1,0 +1,93 @@
+-- Looking for the first row that is alike to a key. Assumes nothing.
+use mathlib.Core.Path.{_≡_, refl, sym, ap, _∙_}
+use mathlib.Core.Bool.{Bool, true, false, cond}
+use mathlib.Core.List.{List, [], _∷_}
+use Prim.Native.Nat.{ℕ, suc, _+_, _<_, _≤_, min}
+use native.Mathlib.Omega.{arith}
+use native.Mathlib.Numerals.{one-add}
+use lib.ListN.{length, getD, set, take, drop, length-take}
+use Rattle.std.proofs.shelf.Lists.{at-drop-more, at-drop-all, getD-take}
+use Rattle.std.specs.Slices.{found}
+use Rattle.std.specs.declared.option.Option.{Option}
+use Rattle.std.specs.declared.option.Option.the-variants.{Some, None}
+use Rattle.tally.specs.declared.rows.Row.{Row}
+use Rattle.tally.specs.Steps.{known, before, place, count-in, risen, raised}
+
+module _ {K : Type 0} (alike : K → K → Bool) (k : K) where
+  -- the place of the first alike row, where the rows stand from place i on
+  abbrev pub place-from : ℕ → List (Row K) → Option ℕ
+  place-from i rows = cond (known alike rows k) (Some (i + before alike rows k)) None
+
+  pub place-start : (rows : List (Row K)) → place-from 0 rows ≡ place alike rows k
+  place-start rows = ap (λ n. cond (known alike rows k) (Some n) None) (omega arith)
+
+  module _ (rows : List (Row K)) (i : ℕ) (row : Row K) (within : i < length rows) (read : row ≡ getD rows i row) where
+    one-on : place-from i (drop i rows) ≡ cond (cond (alike (row .key) k) true (known alike (drop (i + 1) rows) k)) (Some (i + cond (alike (row .key) k) 0 (1 + before alike (drop (i + 1) rows) k))) None
+    one-on = at-drop-more (place-from i) rows i row within ∙ ap (λ (x : Row K). place-from i (x ∷ drop (i + 1) rows)) (sym read)
+
+    pub place-here : alike (row .key) k ≡ true → place-from i (drop i rows) ≡ Some i
+    place-here hit = one-on ∙ rw hit (ap (λ (n : ℕ). Some n) (omega arith))
+
+    pub place-later : alike (row .key) k ≡ false → place-from i (drop i rows) ≡ place-from (i + 1) (drop (i + 1) rows)
+    place-later miss = one-on ∙ rw miss (ap (λ n. cond (known alike (drop (i + 1) rows) k) (Some n) None) (omega arith))
+
+  pub place-nowhere : (rows : List (Row K)) (i : ℕ) → length rows ≤ i → place-from i (drop i rows) ≡ None
+  place-nowhere rows i all = at-drop-all (place-from i) rows i all
+
+  -- where a row was found
+  pub found-within : (rows : List (Row K)) → known alike rows k ≡ true → before alike rows k < length rows
+  found-within [] h = absurd (let z : _≡_ {A = ℕ} 0 1 = cc in omega arith)
+  found-within (row ∷ rows) h = ways (alike (row .key) k) (found-within rows) h
+    where
+      ways : (b : Bool) → (known alike rows k ≡ true → before alike rows k < length rows) → cond b true (known alike rows k) ≡ true → cond b 0 (1 + before alike rows k) < suc (length rows)
+      ways true again h = omega arith
+      ways false again h = omega (arith, again h)
+
+  pub found-raised : (rows : List (Row K)) (d : Row K) → risen alike rows k ≡ set rows (before alike rows k) (raised (getD rows (before alike rows k) d))
+  found-raised [] d = refl
+  found-raised (row ∷ rows) d = ways (alike (row .key) k) (found-raised rows d)
+    where
+      ways : (b : Bool) → risen alike rows k ≡ set rows (before alike rows k) (raised (getD rows (before alike rows k) d))
+          → cond b (raised row ∷ rows) (row ∷ risen alike rows k) ≡ set (row ∷ rows) (cond b 0 (1 + before alike rows k)) (raised (getD (row ∷ rows) (cond b 0 (1 + before alike rows k)) d))
+      ways true again = refl
+      ways false again = rw one-add (ap (λ zs. row ∷ zs) again)
+
+  pub found-count : (rows : List (Row K)) (d : Row K) → known alike rows k ≡ true → count-in alike rows k ≡ getD rows (before alike rows k) d .count
+  found-count [] d h = absurd (let z : _≡_ {A = ℕ} 0 1 = cc in omega arith)
+  found-count (row ∷ rows) d h = ways (alike (row .key) k) (found-count rows d) h
+    where
+      ways : (b : Bool) → (known alike rows k ≡ true → count-in alike rows k ≡ getD rows (before alike rows k) d .count)
+          → cond b true (known alike rows k) ≡ true → cond b (row .count) (count-in alike rows k) ≡ getD (row ∷ rows) (cond b 0 (1 + before alike rows k)) d .count
+      ways true again h = refl
+      ways false again h = rw one-add (again h)
+
+  -- what the answer of a search says
+  pub place-some : (rows : List (Row K)) (i : ℕ) → Some i ≡ place alike rows k → (known alike rows k ≡ true) × (i ≡ before alike rows k)
+  place-some rows i e = ways (known alike rows k) e
+    where
+      ways : (b : Bool) → Some i ≡ cond b (Some (before alike rows k)) None → (b ≡ true) × (i ≡ before alike rows k)
+      ways true e = (refl, (cc))
+      ways false e = absurd (let z : _≡_ {A = ℕ} 0 1 = cc in omega arith)
+
+  pub place-none : (rows : List (Row K)) → None ≡ place alike rows k → known alike rows k ≡ false
+  place-none rows e = ways (known alike rows k) e
+    where
+      ways : (b : Bool) → None ≡ cond b (Some (before alike rows k)) None → b ≡ false
+      ways true e = absurd (let z : _≡_ {A = ℕ} 0 1 = cc in omega arith)
+      ways false e = refl
+
+  -- a search of the first n rows
+  pub place-read : (rows : List (Row K)) (n i : ℕ) (d : Row K) → Some i ≡ place alike (take n rows) k → (i < n) × (i < length rows) × (getD (take n rows) i d ≡ getD rows i d)
+  place-read rows n i d e =
+      let at = place-some (take n rows) i e in
+      let within : i < min n (length rows) = omega (arith, found-within (take n rows) (at .0), at .1, length-take n rows) in
+      (omega arith, omega arith, getD-take n rows i d (omega arith))
+
+  pub place-count : (rows : List (Row K)) (n i : ℕ) (d : Row K) → Some i ≡ place alike (take n rows) k → getD rows i d .count ≡ count-in alike (take n rows) k
+  place-count rows n i d e =
+      let at = place-some (take n rows) i e in
+      ap (λ (row : Row K). row .count) (sym (place-read rows n i d e .2)) ∙ ap (λ j. getD (take n rows) j d .count) (at .1) ∙ sym (found-count (take n rows) d (at .0))
+
+pub found-within-rows : {X : Type 0} (r : Option ℕ) (n : ℕ) (rows : List X) → found r (λ i. i < length (take n rows)) → found r (λ i. i < length rows)
+found-within-rows None n rows h = tt
+found-within-rows (Some i) n rows h = omega (arith, length-take n rows, h)

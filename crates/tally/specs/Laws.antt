@@ -1,0 +1,26 @@
+-- What a tally tells of the keys that came. Assumes nothing.
+use mathlib.Core.Path.{_≡_}
+use mathlib.Core.Bool.{Bool, true, false}
+use mathlib.Core.List.{List, [], _∷_}
+use Prim.Native.Nat.{ℕ, _+_, _*_, _≤_}
+use lib.ListN.{length}
+use Rattle.std.specs.shelf.Lists.{All, Has, sumBy}
+use Rattle.likeness.specs.Counts.{true-count}
+use Rattle.tally.specs.declared.rows.Row.{Row}
+use Rattle.tally.specs.Steps.{Summary, count-in}
+
+-- no two rows are alike
+abbrev pub Unlike : {K : Type 0} → (K → K → Bool) → List (Row K) → Type 0
+Unlike alike [] = Unit {0}
+Unlike alike (row ∷ rows) = All (λ other. alike (row .key) (other .key) ≡ false) rows × Unlike alike rows
+
+-- t is true to `keys`, as a tally of at most `room` rows: its counts bracket how often each key came
+pub record Tells {K : Type 0} (alike : K → K → Bool) (room : ℕ) (keys : List K) (t : Summary K) : Type 0 where
+  pub whole : length keys ≡ sumBy (λ row. row .count) (t .rows) + t .lost * (room + 1)
+  pub floor : (k : K) → count-in alike (t .rows) k ≤ true-count alike keys k
+  pub ceiling : (k : K) → true-count alike keys k ≤ count-in alike (t .rows) k + t .lost
+  pub few : length (t .rows) ≤ room
+  pub unlike : Unlike alike (t .rows)
+  pub counted : All (λ row. 1 ≤ row .count) (t .rows)
+  pub came : All (λ row. Has keys (row .key)) (t .rows)
+  pub same : (k other : K) → alike k other ≡ true → count-in alike (t .rows) k ≡ count-in alike (t .rows) other

@@ -1,0 +1,4 @@
+pub mod Cases
+pub mod Laws
+pub mod Slots
+pub mod Steps

@@ -1,0 +1,18 @@
+//! What a tally is kept in.
+
+/// A key and how often it was counted.
+#[derive(Clone, Copy, PartialEq, Eq, Debug)]
+pub struct Row<K> {
+    pub key: K,
+    pub count: u32,
+}
+
+/// How many rows of a slot are in use, and how often all counts fell.
+#[derive(Clone, Copy, PartialEq, Eq, Debug)]
+pub struct Head {
+    pub used: u32,
+    pub lost: u32,
+}
+
+/// The head of an empty tally.
+pub const EMPTY: Head = Head { used: 0, lost: 0 };

@@ -1,0 +1,106 @@
+//! One key comes to a slot.
+
+ghost use mathlib.Core.Path.{_≡_};
+ghost use mathlib.Core.Bool.{cond};
+ghost use mathlib.Core.List.{List, _∷_, [], _++_};
+ghost use Prim.Native.Nat.{ℕ, _+_, _-_, _≤_, _<_, _^_};
+ghost use lib.Dec.{ltb};
+ghost use lib.ListN.{length, take};
+ghost use Rattle.std.specs.declared.option.Option.the-variants.{Some, None};
+ghost use Rattle.tally.specs.Cases.{Oddities};
+ghost use Rattle.tally.specs.Laws.{Tells};
+ghost use Rattle.tally.specs.Slots.{held, head-of, over, room, stepped};
+ghost use Rattle.tally.specs.Steps.{fallen, lowered, raised};
+use crate::rows::Head;
+use crate::rows::Row;
+use crate::search::find;
+use crate::search::in_use;
+use crate::search::room_of;
+use likeness::Likeness;
+
+// A row one higher, under its own key.
+fn raised<K: Copy>(row: Row<K>) -> Row<K>
+    ensures { λ r. ⌜ r ≡ raised row ⌝ }
+{
+    Row {
+        key: row.key,
+        count: row.count.saturating_add(1),
+    }
+}
+
+// A row one lower, unless it comes to 0 and leaves.
+fn lowered<K: Copy>(row: Row<K>) -> Option<Row<K>>
+    ensures { λ r. ⌜ r ≡ cond (ltb 0 (row .count - 1)) (Some (lowered row)) None ⌝ }
+{
+    if row.count > 1 {
+        Some(Row {
+            key: row.key,
+            count: row.count - 1,
+        })
+    } else {
+        None
+    }
+}
+
+// Every count of the first `used` rows falls by one, and the rows at 0 leave. Answers how many stay; they close up.
+fn settle<K: Copy>(rows: &mut [Row<K>], used: usize) -> usize
+    requires { ⌜ used ≤ length (now rows) ⌝ }
+    ensures stay { λ r. ⌜ r ≡ length (fallen (take used (now (rows .entry)))) ⌝ }
+    ensures rows { λ _. ⌜ now (rows .exit) ≡ over (fallen (take used (now (rows .entry)))) (now (rows .entry)) ⌝ }
+    ensures bound { λ r. ⌜ r ≤ used ⌝ }
+{
+    let mut stay = 0;
+    for i in 0..used {
+        if let Some(row) = lowered(rows[i]) {
+            rows[stay] = row;
+            stay += 1;
+        }
+    }
+    stay
+}
+
+// What `step` does.
+fn take_key<K: Likeness>(rows: &mut [Row<K>], head: Head, key: K) -> Head
+    ensures head { λ r. ⌜ r ≡ head-of (stepped alike (now (rows .entry)) head key) ⌝ }
+    ensures rows { λ _. ⌜ now (rows .exit) ≡ over (stepped alike (now (rows .entry)) head key .rows) (now (rows .entry)) ⌝ }
+{
+    let room = room_of(rows.len());
+    let used = in_use(rows.len(), head);
+    match find(rows, head, &key) {
+        Some(place) => {
+            rows[place] = raised(rows[place]);
+            Head {
+                used: used as u32,
+                lost: head.lost,
+            }
+        }
+        None if used < room => {
+            rows[used] = Row { key, count: 1 };
+            Head {
+                used: used as u32 + 1,
+                lost: head.lost,
+            }
+        }
+        None => {
+            let stay = settle(rows, used);
+            Head {
+                used: stay as u32,
+                lost: head.lost.saturating_add(1),
+            }
+        }
+    }
+}
+
+/// One key comes to the tally in a slot. Answers the slot's new head.
+///
+/// The first row in use that is alike to the key rises by one. Without one, the key enters as the last row, if
+/// there is room; if not, every count falls by one, the rows at 0 leave, and the key is not kept.
+/// What was true to the keys before is true to them and this one.
+pub fn step<K: Likeness>(rows: &mut [Row<K>], head: Head, key: K) -> Head
+    ensures head { λ r. ⌜ r ≡ head-of (stepped alike (now (rows .entry)) head key) ⌝ }
+    ensures rows { λ _. ⌜ now (rows .exit) ≡ over (stepped alike (now (rows .entry)) head key .rows) (now (rows .entry)) ⌝ }
+    ensures tells { λ r. ⌜ ((keys : List K) → length keys + 1 < 2 ^ 32 → Tells alike (room (now (rows .entry))) keys (held (now (rows .entry)) head) → Tells alike (room (now (rows .entry))) (keys ++ key ∷ []) (held (now (rows .exit)) r)) ⌝ }
+    ensures odd { λ _. ⌜ Oddities ⌝ }
+{
+    take_key(rows, head, key)
+}
