@@ -3,6 +3,7 @@
 ghost use mathlib.Core.Path.{_≡_};
 ghost use mathlib.Core.Bool.{true, false};
 ghost use mathlib.Core.List.{_∷_, []};
+ghost use Rattle.std.specs.shelf.Text.{sameBytes};
 ghost use Rattle.likeness.specs.Agree.{kind-of, same-kind};
 use crate::kind::Likeness;
 
@@ -21,6 +22,13 @@ impl AddressKey {
     }
 }
 
+// Whether two slices hold the same bytes.
+fn same_bytes(bytes: &[u8], other: &[u8]) -> bool
+    ensures { λ r. ⌜ r ≡ sameBytes (now (bytes .entry)) (now (other .entry)) ⌝ }
+{
+    bytes == other
+}
+
 /// Two address keys are alike when their last three bytes agree: the same kind of sentence, whoever speaks.
 pub impl Likeness for AddressKey as AddressLikeness {
     ghost alike = { λ x y. same-kind (x .bytes) (y .bytes) };
@@ -29,6 +37,6 @@ pub impl Likeness for AddressKey as AddressLikeness {
         ensures alike { λ r. ⌜ r ≡ same-kind (now (self .entry) .bytes) (now (other .entry) .bytes) ⌝ }
         ensures worked { λ _. ⌜ (same-kind (83 ∷ 68 ∷ 68 ∷ 80 ∷ 84 ∷ []) (73 ∷ 73 ∷ 68 ∷ 80 ∷ 84 ∷ []) ≡ true) × (same-kind (83 ∷ 68 ∷ 68 ∷ 80 ∷ 84 ∷ []) (83 ∷ 68 ∷ 68 ∷ 66 ∷ 84 ∷ []) ≡ false) ⌝ }
     {
-        self.kind() == other.kind()
+        same_bytes(self.kind(), other.kind())
     }
 }

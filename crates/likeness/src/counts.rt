@@ -15,11 +15,11 @@ pub fn true_count<K: Likeness>(window: &[K], key: &K) -> usize
     ensures value { λ r. ⌜ r ≡ true-count alike (now (window .entry)) (now (key .entry)) ⌝ }
     ensures bound { λ r. ⌜ r ≤ length (now (window .entry)) ⌝ }
 {
-    let mut count = 0;
+    let mut total = 0;
     for other in window {
-        count += other.is_alike(key) as usize;
+        total += other.is_alike(key) as usize;
     }
-    count
+    total
 }
 
 // Whether a reading is the sounder's and too shallow for the class.

@@ -11,7 +11,8 @@ use Rattle.std.specs.Slices.{found}
 use Rattle.std.specs.declared.option.Option.{Option}
 use Rattle.std.specs.declared.option.Option.the-variants.{Some, None}
 use Rattle.tally.specs.declared.rows.Row.{Row}
-use Rattle.tally.specs.Steps.{known, before, place, count-in, risen, raised}
+use Rattle.tally.specs.Steps.{known, before, place, count-in, entered, risen, raised}
+use Rattle.tally.proofs.Changes.{count-none}
 
 module _ {K : Type 0} (alike : K → K → Bool) (k : K) where
   -- the place of the first alike row, where the rows stand from place i on
@@ -21,14 +22,15 @@ module _ {K : Type 0} (alike : K → K → Bool) (k : K) where
   pub place-start : (rows : List (Row K)) → place-from 0 rows ≡ place alike rows k
   place-start rows = ap (λ n. cond (known alike rows k) (Some n) None) (omega arith)
 
-  module _ (rows : List (Row K)) (i : ℕ) (row : Row K) (within : i < length rows) (read : row ≡ getD rows i row) where
-    one-on : place-from i (drop i rows) ≡ cond (cond (alike (row .key) k) true (known alike (drop (i + 1) rows) k)) (Some (i + cond (alike (row .key) k) 0 (1 + before alike (drop (i + 1) rows) k))) None
-    one-on = at-drop-more (place-from i) rows i row within ∙ ap (λ (x : Row K). place-from i (x ∷ drop (i + 1) rows)) (sym read)
+  -- the row at i is alike, or is not; d stands in where there is no row
+  module _ (rows : List (Row K)) (i : ℕ) (d : Row K) (within : i < length rows) where
+    one-on : place-from i (drop i rows) ≡ place-from i (getD rows i d ∷ drop (i + 1) rows)
+    one-on = at-drop-more (place-from i) rows i d within
 
-    pub place-here : alike (row .key) k ≡ true → place-from i (drop i rows) ≡ Some i
+    pub place-here : alike (getD rows i d .key) k ≡ true → place-from i (drop i rows) ≡ Some i
     place-here hit = one-on ∙ rw hit (ap (λ (n : ℕ). Some n) (omega arith))
 
-    pub place-later : alike (row .key) k ≡ false → place-from i (drop i rows) ≡ place-from (i + 1) (drop (i + 1) rows)
+    pub place-later : alike (getD rows i d .key) k ≡ false → place-from i (drop i rows) ≡ place-from (i + 1) (drop (i + 1) rows)
     place-later miss = one-on ∙ rw miss (ap (λ n. cond (known alike (drop (i + 1) rows) k) (Some n) None) (omega arith))
 
   pub place-nowhere : (rows : List (Row K)) (i : ℕ) → length rows ≤ i → place-from i (drop i rows) ≡ None
@@ -83,11 +85,16 @@ module _ {K : Type 0} (alike : K → K → Bool) (k : K) where
       let within : i < min n (length rows) = omega (arith, found-within (take n rows) (at .0), at .1, length-take n rows) in
       (omega arith, omega arith, getD-take n rows i d (omega arith))
 
-  pub place-count : (rows : List (Row K)) (n i : ℕ) (d : Row K) → Some i ≡ place alike (take n rows) k → getD rows i d .count ≡ count-in alike (take n rows) k
+  place-count : (rows : List (Row K)) (n i : ℕ) (d : Row K) → Some i ≡ place alike (take n rows) k → getD rows i d .count ≡ count-in alike (take n rows) k
   place-count rows n i d e =
       let at = place-some (take n rows) i e in
       ap (λ (row : Row K). row .count) (sym (place-read rows n i d e .2)) ∙ ap (λ j. getD (take n rows) j d .count) (at .1) ∙ sym (found-count (take n rows) d (at .0))
 
-pub found-within-rows : {X : Type 0} (r : Option ℕ) (n : ℕ) (rows : List X) → found r (λ i. i < length (take n rows)) → found r (λ i. i < length rows)
-found-within-rows None n rows h = tt
-found-within-rows (Some i) n rows h = omega (arith, length-take n rows, h)
+  pub place-counts : (rows : List (Row K)) (n : ℕ) (r : Option ℕ) (count : ℕ) → r ≡ place alike (take n rows) k → (r ≡ None → count ≡ 0) → found r (λ i. (d : Row K) → count ≡ getD rows i d .count)
+      → count ≡ count-in alike (take n rows) k
+  place-counts rows n None count e none some = none refl ∙ sym (count-none alike (take n rows) k (place-none (take n rows) e))
+  place-counts rows n (Some i) count e none some = some (entered k) ∙ place-count rows n i (entered k) e
+
+pub found-within-rows : {X : Type 0} (r : Option ℕ) (n : ℕ) (rows live : List X) → live ≡ take n rows → found r (λ i. i < length live) → found r (λ i. i < length rows)
+found-within-rows None n rows live front h = tt
+found-within-rows (Some i) n rows live front h = omega (arith, ap length front, length-take n rows, h)

@@ -1,8 +1,9 @@
 //! Looking for a key in a slot.
 
 ghost use mathlib.Core.Path.{_≡_};
-ghost use Prim.Native.Nat.{ℕ, _<_, min};
-ghost use lib.ListN.{length, take};
+ghost use Prim.Native.Nat.{ℕ, _<_, _≤_, min};
+ghost use lib.ListN.{getD, length, take};
+ghost use Rattle.std.specs.declared.option.Option.the-variants.{None};
 ghost use Rattle.std.specs.Slices.{found};
 ghost use Rattle.tally.specs.Steps.{place, count-in};
 ghost use Rattle.tally.specs.Slots.{in-use, held, room};
@@ -10,17 +11,29 @@ use crate::rows::Head;
 use crate::rows::Row;
 use likeness::Likeness;
 
-// The place of the first row alike to the key.
+// The place of the first row that is alike to the key.
 fn first_alike<K: Likeness>(rows: &[Row<K>], key: &K) -> Option<usize>
     ensures value { λ r. ⌜ r ≡ place alike (now (rows .entry)) (now (key .entry)) ⌝ }
     ensures within { λ r. ⌜ found r (λ i. i < length (now (rows .entry))) ⌝ }
 {
-    for (place, row) in rows.iter().enumerate() {
-        if row.key.is_alike(key) {
+    for place in 0..rows.len() {
+        if rows[place].key.is_alike(key) {
             return Some(place);
         }
     }
     None
+}
+
+// The count of the row at `place`; without one, 0.
+fn count_at<K: Copy>(rows: &[Row<K>], place: Option<usize>) -> u32
+    requires { ⌜ found place (λ i. i < length (now rows)) ⌝ }
+    ensures none { λ r. ⌜ (place ≡ None → r ≡ 0) ⌝ }
+    ensures some { λ r. ⌜ found place (λ i. (d : Row K) → r ≡ getD (now (rows .entry)) i d .count) ⌝ }
+{
+    match place {
+        Some(place) => rows[place].count,
+        None => 0,
+    }
 }
 
 /// How many rows of a slot of `len` rows can be used: all, but no more than `used` can count.
@@ -37,20 +50,24 @@ pub(crate) fn in_use(len: usize, head: Head) -> usize
     (head.used as usize).min(room_of(len))
 }
 
+// The rows in use of a slot.
+fn live<K: Copy>(rows: &[Row<K>], head: Head) -> &[Row<K>]
+    ensures { λ r. ⌜ now r ≡ held (now (rows .entry)) head .rows ⌝ }
+{
+    &rows[..in_use(rows.len(), head)]
+}
+
 /// The place of the first row in use that is alike to the key.
 pub fn find<K: Likeness>(rows: &[Row<K>], head: Head, key: &K) -> Option<usize>
     ensures value { λ r. ⌜ r ≡ place alike (held (now (rows .entry)) head .rows) (now (key .entry)) ⌝ }
     ensures within { λ r. ⌜ found r (λ i. i < length (now (rows .entry))) ⌝ }
 {
-    first_alike(&rows[..in_use(rows.len(), head)], key)
+    first_alike(live(rows, head), key)
 }
 
 /// What a slot counts of the key: the count of the first row in use that is alike, or 0.
 pub fn count_of<K: Likeness>(rows: &[Row<K>], head: Head, key: &K) -> u32
     ensures { λ r. ⌜ r ≡ count-in alike (held (now (rows .entry)) head .rows) (now (key .entry)) ⌝ }
 {
-    match find(rows, head, key) {
-        Some(place) => rows[place].count,
-        None => 0,
-    }
+    count_at(rows, find(rows, head, key))
 }

@@ -3,14 +3,14 @@
 ghost use mathlib.Core.Path.{_≡_};
 ghost use mathlib.Core.Bool.{cond};
 ghost use mathlib.Core.List.{List, _∷_, [], _++_};
-ghost use Prim.Native.Nat.{ℕ, _+_, _-_, _≤_, _<_, _^_};
+ghost use Prim.Native.Nat.{ℕ, _+_, _-_, _≤_, _<_, _^_, min};
 ghost use lib.Dec.{ltb};
 ghost use lib.ListN.{length, take};
 ghost use Rattle.std.specs.declared.option.Option.the-variants.{Some, None};
 ghost use Rattle.tally.specs.Cases.{Oddities};
 ghost use Rattle.tally.specs.Laws.{Tells};
 ghost use Rattle.tally.specs.Slots.{held, head-of, over, room, stepped};
-ghost use Rattle.tally.specs.Steps.{fallen, lowered, raised};
+ghost use Rattle.tally.specs.Steps.{fallen, lowered};
 use crate::rows::Head;
 use crate::rows::Row;
 use crate::search::find;
@@ -18,13 +18,13 @@ use crate::search::in_use;
 use crate::search::room_of;
 use likeness::Likeness;
 
-// A row one higher, under its own key.
-fn raised<K: Copy>(row: Row<K>) -> Row<K>
-    ensures { λ r. ⌜ r ≡ raised row ⌝ }
+// A row that takes in the count of another, which is alike, and keeps its own key.
+fn joined<K: Copy>(row: Row<K>, came: Row<K>) -> Row<K>
+    ensures { λ r. ⌜ r ≡ record { key = row .key; count = min (row .count + came .count) 4294967295 } ⌝ }
 {
     Row {
         key: row.key,
-        count: row.count.saturating_add(1),
+        count: row.count.saturating_add(came.count),
     }
 }
 
@@ -32,10 +32,11 @@ fn raised<K: Copy>(row: Row<K>) -> Row<K>
 fn lowered<K: Copy>(row: Row<K>) -> Option<Row<K>>
     ensures { λ r. ⌜ r ≡ cond (ltb 0 (row .count - 1)) (Some (lowered row)) None ⌝ }
 {
-    if row.count > 1 {
+    let Row { key, count } = row;
+    if count > 1 {
         Some(Row {
-            key: row.key,
-            count: row.count - 1,
+            key,
+            count: count - 1,
         })
     } else {
         None
@@ -66,16 +67,17 @@ fn take_key<K: Likeness>(rows: &mut [Row<K>], head: Head, key: K) -> Head
 {
     let room = room_of(rows.len());
     let used = in_use(rows.len(), head);
+    let came = Row { key, count: 1 };
     match find(rows, head, &key) {
         Some(place) => {
-            rows[place] = raised(rows[place]);
+            rows[place] = joined(rows[place], came);
             Head {
                 used: used as u32,
                 lost: head.lost,
             }
         }
         None if used < room => {
-            rows[used] = Row { key, count: 1 };
+            rows[used] = came;
             Head {
                 used: used as u32 + 1,
                 lost: head.lost,

@@ -7,7 +7,7 @@ use Rattle.likeness.proofs.counts.true_count.Needs as need
 
 pub loop-other-again : need.loop-other-again
 loop-other-again g c =
-    counted-more (λ x. g .K·Likeness .alike x (c .args .key .now)) (c .args .window .now) (c .loop-other .other-index) (c .other-item .result) (c .is-alike .result) (c .loop-other .count) (c .loop-other-test .taken) (c .other-item .is) (c .is-alike .ensures) (c .loop-other .inv)
+    counted-more (λ x. g .K·Likeness .alike x (c .args .key .now)) (c .args .window .now) (c .loop-other .other-index) (c .other-item .result) (c .is-alike .result) (c .loop-other .total) (c .loop-other-test .taken) (c .other-item .is) (c .is-alike .ensures) (c .loop-other .inv)
 
 pub returns : need.returns
 returns g c = record {

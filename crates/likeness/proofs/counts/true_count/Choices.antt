@@ -6,4 +6,4 @@ use Rattle.likeness.proofs.counts.true_count.Given as given
 
 abbrev pub Inv-loop-other : given.InvT-loop-other
 Inv-loop-other g l =
-    (l .count ≡ true-count (g .K·Likeness .alike) (take (l .other-index) (l .window)) (l .key)) × (l .count ≤ l .other-index)
+    (l .total ≡ true-count (g .K·Likeness .alike) (take (l .other-index) (l .window)) (l .key)) × (l .total ≤ l .other-index)

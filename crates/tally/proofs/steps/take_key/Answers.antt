@@ -14,7 +14,7 @@ returns-in-Some g c =
     let found = c .in-Some .ensures tt .value in
     record {
       head = (λ t. record { used = c .in-use-used .ensures t; lost = head .lost }) ∙ rise-head alike rows head (c .args .key) (c .in-Some .place) found;
-      rows = (λ t. set rows (c .in-Some .place) (c .raised .ensures t)) ∙ rise-rows alike rows head (c .args .key) (c .in-Some .place) found (c .index-rows-place .result) (c .index-rows-place .is);
+      rows = (λ t. set rows (c .in-Some .place) (c .joined .ensures t)) ∙ rise-rows alike rows head (c .args .key) (c .in-Some .place) found (c .index-rows-place .result) (c .index-rows-place .is);
     }
 
 pub returns-in-None : need.returns-in-None
