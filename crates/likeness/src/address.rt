@@ -8,7 +8,7 @@ ghost use Rattle.likeness.specs.Agree.{kind-of, same-kind};
 use crate::kind::Likeness;
 
 /// The address of a sentence as it is counted: two bytes for who speaks, and three for the kind of sentence.
-#[derive(Clone, Copy, PartialEq, Eq, Debug)]
+#[derive(Clone, Copy, Debug)]
 pub struct AddressKey {
     pub bytes: [u8; 5],
 }

@@ -5,8 +5,9 @@ ghost use mathlib.Core.Bool.{_&&_};
 ghost use Prim.Native.Nat.{ℕ, _≤_};
 ghost use lib.Dec.{ltb};
 ghost use lib.ListN.{length};
+ghost use Rattle.std.specs.Orderings.{Decides};
 ghost use Rattle.likeness.specs.Agree.{same-sounder};
-ghost use Rattle.likeness.specs.Counts.{true-count, truly-short};
+ghost use Rattle.likeness.specs.Counts.{Stands, true-count, truly-short};
 use crate::kind::Likeness;
 use crate::sounding::SoundingKey;
 
@@ -20,6 +21,13 @@ pub fn true_count<K: Likeness>(window: &[K], key: &K) -> usize
         total += other.is_alike(key) as usize;
     }
     total
+}
+
+/// Whether some key of the window is alike to `key`.
+pub fn stands_in<K: Likeness>(window: &[K], key: &K) -> bool
+    ensures { λ r. ⌜ Decides r (Stands alike (now (window .entry)) (now (key .entry))) ⌝ }
+{
+    true_count(window, key) >= 1
 }
 
 // Whether a reading is the sounder's and too shallow for the class.

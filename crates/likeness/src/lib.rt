@@ -7,14 +7,13 @@ mod sounding;
 
 pub use address::AddressKey;
 pub use address::AddressKeyDebug;
-pub use address::AddressKeyPartialEq;
 pub use address::AddressLikeness;
+pub use counts::stands_in;
 pub use counts::true_count;
 pub use counts::truly_short;
 pub use kind::Likeness;
 pub use sounding::SoundingKey;
 pub use sounding::SoundingKeyDebug;
-pub use sounding::SoundingKeyPartialEq;
 pub use sounding::SoundingLikeness;
 
 #[cfg(test)]
@@ -58,6 +57,8 @@ mod tests {
         ];
         check_eq(true_count(&window, &reading(*b"SD", 0)), 2)?;
         check_eq(true_count(&window, &reading(*b"SD", 98)), 0)?;
+        check(stands_in(&window, &reading(*b"SD", 0)))?;
+        check(!stands_in(&window, &reading(*b"SD", 98)))?;
         check_eq(truly_short(&window, *b"SD", 1), 2)?;
         check_eq(truly_short(&window, *b"SD", 2), 3)?;
         check_eq(truly_short(&window, *b"II", 0), 0)

@@ -7,10 +7,9 @@ ghost use Rattle.likeness.specs.Agree.{same-sounder};
 use crate::kind::Likeness;
 use bands::Band;
 use bands::BandDebug;
-use bands::BandPartialEq;
 
 /// A reading as it is counted: who sounded, and the band of the clearance.
-#[derive(Clone, Copy, PartialEq, Eq, Debug)]
+#[derive(Clone, Copy, Debug)]
 pub struct SoundingKey {
     pub sounder: [u8; 2],
     pub band: Band,

@@ -1,7 +1,7 @@
 //! What a tally is kept in.
 
 /// A key and how often it was counted.
-#[derive(Clone, Copy, PartialEq, Eq, Debug)]
+#[derive(Clone, Copy, Debug)]
 pub struct Row<K> {
     pub key: K,
     pub count: u32,
