@@ -1,6 +1,6 @@
 -- Keys that are alike exactly where something of theirs is equal. Assumes nothing.
 use mathlib.Core.Path.{_≡_, refl, sym, ap, _∙_}
-use mathlib.Core.Bool.{Bool, true, _&&_}
+use mathlib.Core.Bool.{Bool, true}
 use mathlib.Core.List.{List}
 use Prim.Native.Nat.{ℕ}
 use lib.Dec.{eqb}
@@ -8,7 +8,7 @@ use lib.ListN.{getD}
 use Rattle.std.specs.Orderings.{Decides}
 use Rattle.std.proofs.shelf.Equals.{sameBytes-decides}
 use Rattle.std.proofs.shelf.Tests.{and-parts, and-from, eqb-true, eq-eqb}
-use Rattle.likeness.specs.Agree.{same-sounder, kind-of, same-kind}
+use Rattle.likeness.specs.Agree.{same-sounder, same-reading, kind-of, same-kind}
 use Rattle.likeness.specs.declared.address.AddressKey.{AddressKey}
 use Rattle.likeness.specs.declared.sounding.SoundingKey.{SoundingKey}
 
@@ -33,7 +33,7 @@ address-decides x y = sameBytes-decides (address-part x) (address-part y)
 abbrev pub sounding-part : SoundingKey → ℕ × ℕ × ℕ
 sounding-part x = (getD (x .sounder) 0 0, getD (x .sounder) 1 0, x .band .value)
 
-pub sounding-decides : (x y : SoundingKey) → Decides (same-sounder (x .sounder) (y .sounder) && eqb (x .band .value) (y .band .value)) (sounding-part x ≡ sounding-part y)
+pub sounding-decides : (x y : SoundingKey) → Decides (same-reading (x .sounder) (x .band .value) (y .sounder) (y .band .value)) (sounding-part x ≡ sounding-part y)
 sounding-decides x y = (
   (λ h.
       let both = and-parts (same-sounder (x .sounder) (y .sounder)) (eqb (x .band .value) (y .band .value)) h in

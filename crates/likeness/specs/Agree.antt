@@ -10,6 +10,10 @@ use Rattle.std.specs.shelf.Text.{sameBytes}
 abbrev pub same-sounder : List ℕ → List ℕ → Bool
 same-sounder s t = eqb (getD s 0 0) (getD t 0 0) && eqb (getD s 1 0) (getD t 1 0)
 
+-- two readings agree in sounder and band
+abbrev pub same-reading : List ℕ → ℕ → List ℕ → ℕ → Bool
+same-reading sounder band sounder′ band′ = same-sounder sounder sounder′ && eqb band band′
+
 -- the kind of sentence that an address names: its last three bytes of five
 abbrev pub kind-of : List ℕ → List ℕ
 kind-of address = take 3 (drop 2 address)

@@ -15,6 +15,10 @@ true-count alike window k = countBy (λ x. alike x k) window
 abbrev pub Stands : {K : Type 0} → (K → K → Bool) → List K → K → Type 0
 Stands alike window k = 1 ≤ true-count alike window k
 
--- how many keys of the window are the sounder's with a band below the class: its readings that were too shallow for that class
+-- a key is the sounder's, and its band is below the class: a reading that was too shallow for that class
+abbrev pub short-for : List ℕ → ℕ → SoundingKey → Bool
+short-for sounder class key = same-sounder (key .sounder) sounder && ltb (key .band .value) class
+
+-- how many keys of the window are truly short
 abbrev pub truly-short : List SoundingKey → List ℕ → ℕ → ℕ
-truly-short window sounder class = countBy (λ x. same-sounder (x .sounder) sounder && ltb (x .band .value) class) window
+truly-short window sounder class = countBy (short-for sounder class) window

@@ -22,7 +22,7 @@ impl AddressKey {
     }
 }
 
-// Whether two slices hold the same bytes.
+// Whether two slices hold the same bytes: `==` with an answer that is a defined value.
 fn same_bytes(bytes: &[u8], other: &[u8]) -> bool
     ensures { λ r. ⌜ r ≡ sameBytes (now (bytes .entry)) (now (other .entry)) ⌝ }
 {

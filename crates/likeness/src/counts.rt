@@ -1,13 +1,10 @@
 //! Plain counts over a window that is there whole: what every answer is measured against.
 
 ghost use mathlib.Core.Path.{_≡_};
-ghost use mathlib.Core.Bool.{_&&_};
-ghost use Prim.Native.Nat.{ℕ, _≤_};
-ghost use lib.Dec.{ltb};
+ghost use Prim.Native.Nat.{_≤_};
 ghost use lib.ListN.{length};
 ghost use Rattle.std.specs.Orderings.{Decides};
-ghost use Rattle.likeness.specs.Agree.{same-sounder};
-ghost use Rattle.likeness.specs.Counts.{Stands, true-count, truly-short};
+ghost use Rattle.likeness.specs.Counts.{Stands, short-for, true-count, truly-short};
 use crate::kind::Likeness;
 use crate::sounding::SoundingKey;
 
@@ -32,7 +29,7 @@ pub fn stands_in<K: Likeness>(window: &[K], key: &K) -> bool
 
 // Whether a reading is the sounder's and too shallow for the class.
 fn is_short(key: &SoundingKey, sounder: [u8; 2], class: u8) -> bool
-    ensures { λ r. ⌜ r ≡ (same-sounder (now (key .entry) .sounder) sounder && ltb (now (key .entry) .band .value) class) ⌝ }
+    ensures { λ r. ⌜ r ≡ short-for sounder class (now (key .entry)) ⌝ }
 {
     key.is_of(sounder) && key.band.value() < class
 }

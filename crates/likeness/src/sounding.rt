@@ -1,9 +1,7 @@
 //! Keys for readings of the depth.
 
 ghost use mathlib.Core.Path.{_≡_};
-ghost use mathlib.Core.Bool.{_&&_};
-ghost use lib.Dec.{eqb};
-ghost use Rattle.likeness.specs.Agree.{same-sounder};
+ghost use Rattle.likeness.specs.Agree.{same-reading, same-sounder};
 use crate::kind::Likeness;
 use bands::Band;
 use bands::BandDebug;
@@ -20,14 +18,15 @@ impl SoundingKey {
     pub fn is_of(&self, sounder: [u8; 2]) -> bool
         ensures { λ r. ⌜ r ≡ same-sounder (now (self .entry) .sounder) sounder ⌝ }
     {
-        let [first, second] = self.sounder;
-        first == sounder[0] && second == sounder[1]
+        let [own_first, own_second] = self.sounder;
+        let [first, second] = sounder;
+        own_first == first && own_second == second
     }
 }
 
 /// Two sounding keys are alike when sounder and band agree.
 pub impl Likeness for SoundingKey as SoundingLikeness {
-    ghost alike = { λ x y. same-sounder (x .sounder) (y .sounder) && eqb (x .band .value) (y .band .value) };
+    ghost alike = { λ x y. same-reading (x .sounder) (x .band .value) (y .sounder) (y .band .value) };
 
     fn is_alike(&self, other: &SoundingKey) -> bool {
         self.is_of(other.sounder) && self.band.value() == other.band.value()

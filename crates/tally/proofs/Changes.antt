@@ -1,4 +1,4 @@
--- What rising, entering and falling do to the rows of a tally. Assumes nothing, and of the counts only that alike is symmetric and transitive.
+-- What rising, entering and falling do to the rows of a tally. Assumes nothing; the last lemmas, on the count of a key, take alike to be symmetric and transitive.
 use mathlib.Core.Path.{_≡_, refl}
 use mathlib.Core.Bool.{Bool, true, false, cond}
 use mathlib.Core.List.{List, [], _∷_, _++_, map}

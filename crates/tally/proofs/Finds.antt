@@ -7,6 +7,7 @@ use native.Mathlib.Omega.{arith}
 use native.Mathlib.Numerals.{one-add}
 use lib.ListN.{length, getD, set, take, drop, length-take}
 use Rattle.std.proofs.shelf.Lists.{at-drop-more, at-drop-all, getD-take}
+use Rattle.std.proofs.shelf.Tests.{both-ways}
 use Rattle.std.specs.Slices.{found}
 use Rattle.std.specs.declared.option.Option.{Option}
 use Rattle.std.specs.declared.option.Option.the-variants.{Some, None}
@@ -37,8 +38,8 @@ module _ {K : Type 0} (alike : K → K → Bool) (k : K) where
   place-nowhere rows i all = at-drop-all (place-from i) rows i all
 
   -- where a row was found
-  pub found-within : (rows : List (Row K)) → known alike rows k ≡ true → before alike rows k < length rows
-  found-within [] h = absurd (let z : _≡_ {A = ℕ} 0 1 = cc in omega arith)
+  found-within : (rows : List (Row K)) → known alike rows k ≡ true → before alike rows k < length rows
+  found-within [] h = absurd (both-ways false refl h)
   found-within (row ∷ rows) h = ways (alike (row .key) k) (found-within rows) h
     where
       ways : (b : Bool) → (known alike rows k ≡ true → before alike rows k < length rows) → cond b true (known alike rows k) ≡ true → cond b 0 (1 + before alike rows k) < suc (length rows)
@@ -54,8 +55,8 @@ module _ {K : Type 0} (alike : K → K → Bool) (k : K) where
       ways true again = refl
       ways false again = rw one-add (ap (λ zs. row ∷ zs) again)
 
-  pub found-count : (rows : List (Row K)) (d : Row K) → known alike rows k ≡ true → count-in alike rows k ≡ getD rows (before alike rows k) d .count
-  found-count [] d h = absurd (let z : _≡_ {A = ℕ} 0 1 = cc in omega arith)
+  found-count : (rows : List (Row K)) (d : Row K) → known alike rows k ≡ true → count-in alike rows k ≡ getD rows (before alike rows k) d .count
+  found-count [] d h = absurd (both-ways false refl h)
   found-count (row ∷ rows) d h = ways (alike (row .key) k) (found-count rows d) h
     where
       ways : (b : Bool) → (known alike rows k ≡ true → count-in alike rows k ≡ getD rows (before alike rows k) d .count)
@@ -68,14 +69,14 @@ module _ {K : Type 0} (alike : K → K → Bool) (k : K) where
   place-some rows i e = ways (known alike rows k) e
     where
       ways : (b : Bool) → Some i ≡ cond b (Some (before alike rows k)) None → (b ≡ true) × (i ≡ before alike rows k)
-      ways true e = (refl, (cc))
-      ways false e = absurd (let z : _≡_ {A = ℕ} 0 1 = cc in omega arith)
+      ways true e = (refl, cc)
+      ways false e = absurd (grind arith)
 
   pub place-none : (rows : List (Row K)) → None ≡ place alike rows k → known alike rows k ≡ false
   place-none rows e = ways (known alike rows k) e
     where
       ways : (b : Bool) → None ≡ cond b (Some (before alike rows k)) None → b ≡ false
-      ways true e = absurd (let z : _≡_ {A = ℕ} 0 1 = cc in omega arith)
+      ways true e = absurd (grind arith)
       ways false e = refl
 
   -- a search of the first n rows

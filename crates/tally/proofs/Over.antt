@@ -4,8 +4,7 @@ use mathlib.Core.List.{List, [], _∷_, _++_}
 use Prim.Native.Nat.{ℕ, _+_, _-_, _≤_, _<_}
 use native.Mathlib.Omega.{arith}
 use lib.ListN.{length, getD, set, take, drop, length-append, length-drop, length-set}
-use Rattle.std.proofs.shelf.Lists.{append-assoc, drop-more, getD-append-right, getD-drop, length-push, length-take-le, set-at, take-append-drop}
-use lib.Seq.{take-set-lt, drop-set-lt}
+use Rattle.std.proofs.shelf.Lists.{append-assoc, drop-more, getD-append-right, getD-drop, length-push, length-take-le, set-append-left, set-at, take-append-drop}
 use Rattle.tally.specs.Slots.{over}
 
 module _ {X : Type 0} where
@@ -26,14 +25,14 @@ module _ {X : Type 0} where
       let back : length front + (i - length front) ≡ i = omega arith in
       getD-append-right front (drop (length front) xs) (length front) i d refl h ∙ getD-drop (length front) xs (i - length front) d ∙ ap (λ j. getD xs j d) back
 
-  pub over-take : (n : ℕ) (xs : List X) → n ≤ length xs → over (take n xs) xs ≡ xs
+  over-take : (n : ℕ) (xs : List X) → n ≤ length xs → over (take n xs) xs ≡ xs
   over-take n xs h = ap (λ m. take n xs ++ drop m xs) (length-take-le n xs h) ∙ take-append-drop n xs
 
   -- one element of the front is written
   pub over-set : (n : ℕ) (xs : List X) (i : ℕ) (x : X) → n ≤ length xs → i < n → set xs i x ≡ over (set (take n xs) i x) xs
   over-set n xs i x h lt =
       let long : length (set (take n xs) i x) ≡ n = length-set (take n xs) i x ∙ length-take-le n xs h in
-      sym (take-append-drop n (set xs i x)) ∙ (λ t. take-set-lt n xs i x lt t ++ drop-set-lt n xs i x lt t) ∙ ap (λ m. set (take n xs) i x ++ drop m xs) (sym long)
+      ap (λ ys. set ys i x) (sym (take-append-drop n xs)) ∙ set-append-left (take n xs) (drop n xs) i x (omega (arith, length-take-le n xs h)) ∙ ap (λ m. set (take n xs) i x ++ drop m xs) (sym long)
 
   -- one element is written behind the first n
   pub over-push : (n : ℕ) (xs : List X) (x : X) → n < length xs → set xs n x ≡ over (take n xs ++ x ∷ []) xs

@@ -5,7 +5,7 @@ use mathlib.Core.List.{List, [], _∷_, _++_, map}
 use Prim.Native.Nat.{ℕ, _+_, _-_, _≤_, _<_}
 use native.Mathlib.Omega.{arith}
 use lib.Dec.{ltb}
-use lib.ListN.{length, getD, set, take, drop}
+use lib.ListN.{length, getD, set, take}
 use Rattle.std.proofs.shelf.Lists.{append-nil, length-push, map-append, take-more}
 use Rattle.std.proofs.shelf.Elements.{kept-by-append}
 use Rattle.std.specs.shelf.Lists.{kept-by}
@@ -60,11 +60,11 @@ module _ {K : Type 0} {xs rows : List (Row K)} {stay i : ℕ} (x : Row K) (s : S
     where
       ways : (b : Bool) → ltb 0 (x .count - 1) ≡ b → Some row ≡ cond b (Some (lowered x)) None → Settling xs (set rows stay row) (stay + 1) (i + 1)
       ways true there e = let same : row ≡ lowered x = cc in subst (λ (r : Row K). Settling xs (set rows stay r) (stay + 1) (i + 1)) (sym same) (stays there)
-      ways false gone e = absurd (let z : _≡_ {A = ℕ} 0 1 = cc in omega arith)
+      ways false gone e = absurd (grind arith)
 
   pub settling-none : None ≡ cond (ltb 0 (x .count - 1)) (Some (lowered x)) None → Settling xs rows stay (i + 1)
   settling-none e = ways (ltb 0 (x .count - 1)) refl e
     where
       ways : (b : Bool) → ltb 0 (x .count - 1) ≡ b → None ≡ cond b (Some (lowered x)) None → Settling xs rows stay (i + 1)
-      ways true there e = absurd (let z : _≡_ {A = ℕ} 0 1 = cc in omega arith)
+      ways true there e = absurd (grind arith)
       ways false gone e = leaves gone

@@ -1,6 +1,6 @@
 -- The ways of one step, from the rows in use to the whole slot. Assumes nothing.
 use mathlib.Core.Path.{_≡_, refl, sym, ap, _∙_}
-use mathlib.Core.Bool.{Bool, true, false, cond}
+use mathlib.Core.Bool.{Bool}
 use mathlib.Core.List.{List, [], _∷_, _++_}
 use Prim.Native.Nat.{ℕ, _+_, _≤_, _<_}
 use native.Mathlib.Omega.{arith}
@@ -10,7 +10,7 @@ use Rattle.std.proofs.shelf.Tests.{cond-true, cond-false, lt-ltb}
 use Rattle.std.specs.declared.option.Option.the-variants.{Some, None}
 use Rattle.tally.specs.declared.rows.Row.{Row}
 use Rattle.tally.specs.declared.rows.Head.{Head}
-use Rattle.tally.specs.Steps.{Summary, known, before, place, risen, raised, entered, rise, enter}
+use Rattle.tally.specs.Steps.{Summary, before, place, risen, raised, entered, rise, enter}
 use Rattle.tally.specs.Slots.{room, in-use, held, stepped, head-of, over}
 use Rattle.tally.proofs.Changes.{length-risen, length-step}
 use Rattle.tally.proofs.Finds.{found-raised, place-some, place-none, place-read}
@@ -46,7 +46,7 @@ module _ {K : Type 0} (alike : K → K → Bool) (slot : List (Row K)) (head : H
         ∙ ap (λ t. over (t .rows) slot) (sym rises)
 
   -- none was, and there is room
-  module _ (missing : None ≡ place alike live k) (some : in-use slot head < room slot) where
+  module _ (missing : None ≡ place alike live k) (free : in-use slot head < room slot) where
     enters : stepped alike slot head k ≡ enter (held slot head) k
     enters = cond-false _ _ _ (place-none alike k live missing) ∙ cond-true _ _ _ (lt-ltb (length live) (room slot) (omega (arith, long)))
 

@@ -7,9 +7,13 @@ use Rattle.tally.specs.declared.rows.Row.{Row}
 use Rattle.tally.specs.declared.rows.Head.{Head}
 use Rattle.tally.specs.Steps.{Summary, step}
 
--- how many rows of a slot can be used: `used` has 32 bits, so a longer slot is read as its first 4,294,967,295 rows
+-- how many of `len` rows can be used: `used` has 32 bits, so a longer slot is read as its first 4,294,967,295 rows
+abbrev pub room-of : ℕ → ℕ
+room-of len = min len 4294967295
+
+-- how many rows of a slot can be used
 abbrev pub room : {X : Type 0} → List X → ℕ
-room slot = min (length slot) 4294967295
+room slot = room-of (length slot)
 
 -- a used number above the room is read as the room
 abbrev pub in-use : {X : Type 0} → List X → Head → ℕ

@@ -15,6 +15,7 @@ pub record Summary (K : Type 0) : Type 0 where
   pub rows : List (Row K)
   pub lost : ℕ
 
+-- the tally of no keys
 abbrev pub empty : {K : Type 0} → Summary K
 empty = record { rows = []; lost = 0 }
 
@@ -22,13 +23,15 @@ empty = record { rows = []; lost = 0 }
 abbrev pub up : ℕ → ℕ
 up n = min (n + 1) 4294967295
 
+-- the row of a key that enters
 abbrev pub entered : {K : Type 0} → K → Row K
 entered k = record { key = k; count = 1 }
 
+-- a row one higher, under its own key
 abbrev pub raised : {K : Type 0} → Row K → Row K
 raised row = record { key = row .key; count = up (row .count) }
 
--- a count of 0 stays 0
+-- a row one lower; a count of 0 stays 0
 abbrev pub lowered : {K : Type 0} → Row K → Row K
 lowered row = record { key = row .key; count = row .count - 1 }
 
@@ -60,12 +63,15 @@ risen alike (row ∷ rows) k = cond (alike (row .key) k) (raised row ∷ rows) (
 abbrev pub fallen : {K : Type 0} → List (Row K) → List (Row K)
 fallen rows = kept-by (λ row. ltb 0 (row .count)) (map lowered rows)
 
+-- what a key does that is alike to a row
 abbrev pub rise : {K : Type 0} → (K → K → Bool) → Summary K → K → Summary K
 rise alike t k = record { rows = risen alike (t .rows) k; lost = t .lost }
 
+-- what a key does that is alike to none, where there is room
 abbrev pub enter : {K : Type 0} → Summary K → K → Summary K
 enter t k = record { rows = t .rows ++ entered k ∷ []; lost = t .lost }
 
+-- what it does where there is none: it is not kept
 abbrev pub fall : {K : Type 0} → Summary K → Summary K
 fall t = record { rows = fallen (t .rows); lost = up (t .lost) }
 

@@ -1,5 +1,6 @@
 //! The tally: a Misra-Gries summary of keys, in rows that the caller lends.
 
+mod extent;
 mod rows;
 mod search;
 mod slot;
@@ -104,6 +105,20 @@ mod tests {
         check_eq(step(&mut rows, head, key(b'C')), Head { used: 1, lost: 1 })?;
         check_eq(rows[0].key.bytes, *b"SDDPB")?;
         check_eq(rows[0].count, 2)
+    }
+
+    #[test]
+    fn a_part_of_a_table() -> Result<(), Fail> {
+        let mut table = [row(b'A', 8); 4];
+        let mut tally = Tally::new(&mut table[1..3], EMPTY);
+        for letter in *b"BCBD" {
+            tally.step(key(letter));
+        }
+        check_eq(tally.head(), Head { used: 1, lost: 1 })?;
+        check_eq(table[0].count, 8)?;
+        check_eq(table[1].key.bytes, *b"SDDPB")?;
+        check_eq(table[1].count, 1)?;
+        check_eq(table[3].count, 8)
     }
 
     #[test]

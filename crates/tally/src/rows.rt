@@ -1,6 +1,6 @@
 //! What a tally is kept in.
 
-/// A key and how often it was counted.
+/// A key and its count: how often it was counted, less the falls since it entered.
 #[derive(Clone, Copy, Debug)]
 pub struct Row<K> {
     pub key: K,

@@ -1,12 +1,13 @@
 //! Looking for a key in a slot.
 
 ghost use mathlib.Core.Path.{_≡_};
-ghost use Prim.Native.Nat.{ℕ, _<_, _≤_, min};
-ghost use lib.ListN.{getD, length, take};
+ghost use Prim.Native.Nat.{_<_};
+ghost use lib.ListN.{getD, length};
 ghost use Rattle.std.specs.declared.option.Option.the-variants.{None};
 ghost use Rattle.std.specs.Slices.{found};
 ghost use Rattle.tally.specs.Steps.{place, count-in};
-ghost use Rattle.tally.specs.Slots.{in-use, held, room};
+ghost use Rattle.tally.specs.Slots.{held};
+use crate::extent::live;
 use crate::rows::Head;
 use crate::rows::Row;
 use likeness::Likeness;
@@ -24,37 +25,16 @@ fn first_alike<K: Likeness>(rows: &[Row<K>], key: &K) -> Option<usize>
     None
 }
 
-// The count of the row at `place`; without one, 0.
-fn count_at<K: Copy>(rows: &[Row<K>], place: Option<usize>) -> u32
-    requires { ⌜ found place (λ i. i < length (now rows)) ⌝ }
-    ensures none { λ r. ⌜ (place ≡ None → r ≡ 0) ⌝ }
-    ensures some { λ r. ⌜ found place (λ i. (d : Row K) → r ≡ getD (now (rows .entry)) i d .count) ⌝ }
+// The count of the row that was found; without one, 0.
+fn count_at<K: Copy>(rows: &[Row<K>], at: Option<usize>) -> u32
+    requires { ⌜ found at (λ i. i < length (now rows)) ⌝ }
+    ensures none { λ r. ⌜ (at ≡ None → r ≡ 0) ⌝ }
+    ensures some { λ r. ⌜ found at (λ i. (d : Row K) → r ≡ getD (now (rows .entry)) i d .count) ⌝ }
 {
-    match place {
+    match at {
         Some(place) => rows[place].count,
         None => 0,
     }
-}
-
-/// How many rows of a slot of `len` rows can be used: all, but no more than `used` can count.
-pub(crate) fn room_of(len: usize) -> usize
-    ensures { λ r. ⌜ r ≡ min len 4294967295 ⌝ }
-{
-    len.min(u32::MAX as usize)
-}
-
-/// How many rows of a slot of `len` rows are in use.
-pub(crate) fn in_use(len: usize, head: Head) -> usize
-    ensures { λ r. ⌜ r ≡ min (head .used) (min len 4294967295) ⌝ }
-{
-    (head.used as usize).min(room_of(len))
-}
-
-// The rows in use of a slot.
-fn live<K: Copy>(rows: &[Row<K>], head: Head) -> &[Row<K>]
-    ensures { λ r. ⌜ now r ≡ held (now (rows .entry)) head .rows ⌝ }
-{
-    &rows[..in_use(rows.len(), head)]
 }
 
 /// The place of the first row in use that is alike to the key.

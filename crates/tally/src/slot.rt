@@ -1,12 +1,12 @@
 //! A tally over a part of a lent row table.
 
 ghost use mathlib.Core.Path.{_≡_};
-ghost use Prim.Native.Nat.{ℕ, _<_, _^_};
+ghost use Prim.Native.Nat.{_<_, _^_};
 ghost use denote.Ref.{name};
 ghost use lib.ListN.{length};
 ghost use Rattle.std.specs.Slices.{found};
 ghost use Rattle.tally.specs.Cases.{Runs};
-ghost use Rattle.tally.specs.Laws.{Tells};
+ghost use Rattle.tally.specs.Laws.{Tells, TellsOn};
 ghost use Rattle.tally.specs.Steps.{place, count-in, run};
 ghost use Rattle.tally.specs.Slots.{held, stepped, head-of, over, room};
 use crate::rows::EMPTY;
@@ -61,6 +61,7 @@ impl<'a, K: Likeness> Tally<'a, K> {
         ensures named { λ _. ⌜ name (now (self .exit) .rows) ≡ name (now (self .entry) .rows) ⌝ }
         ensures head { λ _. ⌜ now (self .exit) .head ≡ head-of (stepped alike (now (now (self .entry) .rows)) (now (self .entry) .head) key) ⌝ }
         ensures rows { λ _. ⌜ now (now (self .exit) .rows) ≡ over (stepped alike (now (now (self .entry) .rows)) (now (self .entry) .head) key .rows) (now (now (self .entry) .rows)) ⌝ }
+        ensures tells { λ _. ⌜ TellsOn alike key (now (now (self .entry) .rows)) (now (self .entry) .head) (now (now (self .exit) .rows)) (now (self .exit) .head) ⌝ }
         ensures long { λ _. ⌜ length (now (now (self .exit) .rows)) ≡ length (now (now (self .entry) .rows)) ⌝ }
     {
         let Tally { rows, head } = self;
@@ -80,7 +81,7 @@ impl<'a, K: Likeness> Tally<'a, K> {
     }
 }
 
-// What `tally_of` does.
+// What `tally_of` does. It stands apart, so that the laws on `tally_of` can speak of the rows that it left.
 fn run<K: Likeness>(rows: &mut [Row<K>], keys: &[K]) -> Head
     ensures head { λ r. ⌜ r ≡ head-of (run alike (room (now (rows .entry))) (now (keys .entry))) ⌝ }
     ensures held { λ r. ⌜ held (now (rows .exit)) r ≡ run alike (room (now (rows .entry))) (now (keys .entry)) ⌝ }

@@ -2,20 +2,19 @@
 
 ghost use mathlib.Core.Path.{_≡_};
 ghost use mathlib.Core.Bool.{cond};
-ghost use mathlib.Core.List.{List, _∷_, [], _++_};
-ghost use Prim.Native.Nat.{ℕ, _+_, _-_, _≤_, _<_, _^_, min};
+ghost use Prim.Native.Nat.{_+_, _-_, _≤_, min};
 ghost use lib.Dec.{ltb};
 ghost use lib.ListN.{length, take};
 ghost use Rattle.std.specs.declared.option.Option.the-variants.{Some, None};
 ghost use Rattle.tally.specs.Cases.{Oddities};
-ghost use Rattle.tally.specs.Laws.{Tells};
-ghost use Rattle.tally.specs.Slots.{held, head-of, over, room, stepped};
+ghost use Rattle.tally.specs.Laws.{TellsOn};
+ghost use Rattle.tally.specs.Slots.{head-of, over, stepped};
 ghost use Rattle.tally.specs.Steps.{fallen, lowered};
+use crate::extent::in_use;
+use crate::extent::room_of;
 use crate::rows::Head;
 use crate::rows::Row;
 use crate::search::find;
-use crate::search::in_use;
-use crate::search::room_of;
 use likeness::Likeness;
 
 // A row that takes in the count of another, which is alike, and keeps its own key.
@@ -60,7 +59,7 @@ fn settle<K: Copy>(rows: &mut [Row<K>], used: usize) -> usize
     stay
 }
 
-// What `step` does.
+// What `step` does. It stands apart, so that the laws on `step` are owed at one return and not at three.
 fn take_key<K: Likeness>(rows: &mut [Row<K>], head: Head, key: K) -> Head
     ensures head { λ r. ⌜ r ≡ head-of (stepped alike (now (rows .entry)) head key) ⌝ }
     ensures rows { λ _. ⌜ now (rows .exit) ≡ over (stepped alike (now (rows .entry)) head key .rows) (now (rows .entry)) ⌝ }
@@ -97,11 +96,11 @@ fn take_key<K: Likeness>(rows: &mut [Row<K>], head: Head, key: K) -> Head
 ///
 /// The first row in use that is alike to the key rises by one. Without one, the key enters as the last row, if
 /// there is room; if not, every count falls by one, the rows at 0 leave, and the key is not kept.
-/// What was true to the keys before is true to them and this one.
+/// A tally that tells of a list of keys tells of the list with this key behind it, up to 4,294,967,295 keys.
 pub fn step<K: Likeness>(rows: &mut [Row<K>], head: Head, key: K) -> Head
     ensures head { λ r. ⌜ r ≡ head-of (stepped alike (now (rows .entry)) head key) ⌝ }
     ensures rows { λ _. ⌜ now (rows .exit) ≡ over (stepped alike (now (rows .entry)) head key .rows) (now (rows .entry)) ⌝ }
-    ensures tells { λ r. ⌜ ((keys : List K) → length keys + 1 < 2 ^ 32 → Tells alike (room (now (rows .entry))) keys (held (now (rows .entry)) head) → Tells alike (room (now (rows .entry))) (keys ++ key ∷ []) (held (now (rows .exit)) r)) ⌝ }
+    ensures tells { λ r. ⌜ TellsOn alike key (now (rows .entry)) head (now (rows .exit)) r ⌝ }
     ensures odd { λ _. ⌜ Oddities ⌝ }
 {
     take_key(rows, head, key)

@@ -1,18 +1,13 @@
 use mathlib.Core.Path.{ap, _∙_}
-use mathlib.Core.Bool.{Bool, _&&_}
 use native.Mathlib.Omega.{arith}
-use lib.Dec.{ltb}
-use Rattle.std.specs.shelf.Lists.{countBy}
 use Rattle.std.proofs.shelf.Lists.{take-all}
-use Rattle.likeness.specs.Agree.{same-sounder}
-use Rattle.likeness.specs.Counts.{truly-short}
-use Rattle.likeness.specs.declared.sounding.SoundingKey.{SoundingKey}
+use Rattle.likeness.specs.Counts.{short-for, truly-short}
 use Rattle.likeness.proofs.Counting.{counted-more}
 use Rattle.likeness.proofs.counts.truly_short.Needs as need
 
 pub loop-key-again : need.loop-key-again
 loop-key-again c =
-    counted-more (λ (x : SoundingKey). same-sounder (x .sounder) (c .args .sounder) && ltb (x .band .value) (c .args .class)) (c .args .window .now) (c .loop-key .key-index) (c .key-item .result) (c .is-short .result) (c .loop-key .count) (c .loop-key-test .taken) (c .key-item .is) (c .is-short .ensures) (c .loop-key .inv)
+    counted-more (short-for (c .args .sounder) (c .args .class)) (c .args .window .now) (c .loop-key .key-index) (c .key-item .result) (c .is-short .result) (c .loop-key .count) (c .loop-key-test .taken) (c .key-item .is) (c .is-short .ensures) (c .loop-key .inv)
 
 pub returns : need.returns
 returns c = record {

@@ -1,6 +1,5 @@
-use mathlib.Core.Path.{ap, sym, _∙_}
+use mathlib.Core.Path.{sym, _∙_}
 use native.Mathlib.Omega.{arith}
-use Rattle.tally.specs.declared.rows.Row.{Row}
 use Rattle.tally.proofs.Finds.{place-start, place-here, place-later, place-nowhere}
 use Rattle.tally.proofs.search.first_alike.Needs as need
 

@@ -13,5 +13,5 @@ returns g c =
       head = c .run .ensures .head;
       held = c .run .ensures .held;
       tells = λ small. subst (Tells alike first keys) (sym (c .run .ensures .held)) (run-tells alike (g .K·Likeness·met .symmetric) (g .K·Likeness·met .transitive) first keys small);
-      worked = record { four = refl; six = refl };
+      worked = record { four = refl; six = refl; own-key = refl };
     }

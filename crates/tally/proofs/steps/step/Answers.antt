@@ -21,5 +21,5 @@ returns g c =
           subst (Tells alike (room rows) (keys ++ key ∷ []))
           (sym ((λ t. held (done .rows t) (done .head t)) ∙ held-stepped alike rows head key))
           (step-tells alike (g .K·Likeness·met .symmetric) (g .K·Likeness·met .transitive) (room rows) keys (held rows head) key (omega arith) told);
-      odd = record { used-above-room = refl; used-above-room-full = refl; count-at-top = refl; lost-at-top = refl; count-of-nothing = refl; alike-twice = refl; no-rows = refl };
+      odd = record { used-above-room = refl; used-above-room-full = refl; row-past-used = refl; count-at-top = refl; lost-at-top = refl; count-of-nothing = refl; alike-twice = refl; no-rows = refl };
     }
