@@ -2,16 +2,19 @@
 use mathlib.Core.Path.{_≡_, refl, sym, ap, _∙_}
 use mathlib.Core.Bool.{Bool, true, false, cond}
 use mathlib.Core.List.{List, [], _∷_}
-use Prim.Native.Nat.{ℕ, suc, _+_, _<_, _≤_, min}
+use Prim.Native.Nat.{ℕ, zero, suc, _+_, _<_, _≤_, min}
 use native.Mathlib.Omega.{arith}
 use native.Mathlib.Numerals.{one-add}
 use lib.ListN.{length, getD, set, take, drop, length-take}
 use Rattle.std.proofs.shelf.Lists.{at-drop-more, at-drop-all, getD-take}
 use Rattle.std.proofs.shelf.Tests.{both-ways}
+use Rattle.std.specs.Places.{At}
 use Rattle.std.specs.Slices.{found}
+use Rattle.std.specs.shelf.Lists.{All}
 use Rattle.std.specs.declared.option.Option.{Option}
 use Rattle.std.specs.declared.option.Option.the-variants.{Some, None}
 use Rattle.tally.specs.declared.rows.Row.{Row}
+use Rattle.tally.specs.Laws.{FirstAlike}
 use Rattle.tally.specs.Steps.{known, before, place, count-in, entered, risen, raised}
 use Rattle.tally.proofs.Changes.{count-none}
 
@@ -78,6 +81,42 @@ module _ {K : Type 0} (alike : K → K → Bool) (k : K) where
       ways : (b : Bool) → None ≡ cond b (Some (before alike rows k)) None → b ≡ false
       ways true e = absurd (grind arith)
       ways false e = refl
+
+  -- what a search found is the first alike row
+  none-alike : (rows : List (Row K)) → known alike rows k ≡ false → All (λ row. alike (row .key) k ≡ false) rows
+  none-alike [] h = tt
+  none-alike (row ∷ rows) h = ways (alike (row .key) k) refl (none-alike rows) h
+    where
+      ways : (b : Bool) → alike (row .key) k ≡ b → (known alike rows k ≡ false → All (λ other. alike (other .key) k ≡ false) rows)
+          → cond b true (known alike rows k) ≡ false → All (λ other. alike (other .key) k ≡ false) (row ∷ rows)
+      ways true e again h = absurd (both-ways true h refl)
+      ways false e again h = (e, again h)
+
+  alike-there : (rows : List (Row K)) → known alike rows k ≡ true → At (λ row. alike (row .key) k ≡ true) rows (before alike rows k)
+  alike-there [] h d = absurd (both-ways false refl h)
+  alike-there (row ∷ rows) h d = ways (alike (row .key) k) refl (λ old. alike-there rows old d) h
+    where
+      ways : (b : Bool) → alike (row .key) k ≡ b → (known alike rows k ≡ true → alike (getD rows (before alike rows k) d .key) k ≡ true)
+          → cond b true (known alike rows k) ≡ true → alike (getD (row ∷ rows) (cond b 0 (1 + before alike rows k)) d .key) k ≡ true
+      ways true e again h = e
+      ways false e again h = rw one-add (again h)
+
+  unlike-before : (rows : List (Row K)) (j : ℕ) (d : Row K) → j < before alike rows k → alike (getD rows j d .key) k ≡ false
+  unlike-before [] j d lt = absurd (omega arith)
+  unlike-before (row ∷ rows) j d lt = ways (alike (row .key) k) refl j (λ i less. unlike-before rows i d less) lt
+    where
+      ways : (b : Bool) → alike (row .key) k ≡ b → (i : ℕ) → ((m : ℕ) → m < before alike rows k → alike (getD rows m d .key) k ≡ false)
+          → i < cond b 0 (1 + before alike rows k) → alike (getD (row ∷ rows) i d .key) k ≡ false
+      ways true e i again less = absurd (omega arith)
+      ways false e zero again less = e
+      ways false e (suc i) again less = again i (omega arith)
+
+  pub place-first : (rows : List (Row K)) → FirstAlike alike rows k (place alike rows k)
+  place-first rows = ways (known alike rows k) refl
+    where
+      ways : (b : Bool) → known alike rows k ≡ b → FirstAlike alike rows k (cond b (Some (before alike rows k)) None)
+      ways true e = (found-within rows e, alike-there rows e, λ j d _ lt. unlike-before rows j d lt)
+      ways false e = none-alike rows e
 
   -- a search of the first n rows
   pub place-read : (rows : List (Row K)) (n i : ℕ) (d : Row K) → Some i ≡ place alike (take n rows) k → (i < n) × (i < length rows) × (getD (take n rows) i d ≡ getD rows i d)

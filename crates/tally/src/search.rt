@@ -5,6 +5,7 @@ ghost use Prim.Native.Nat.{_<_};
 ghost use lib.ListN.{getD, length};
 ghost use Rattle.std.specs.declared.option.Option.the-variants.{None};
 ghost use Rattle.std.specs.Slices.{found};
+ghost use Rattle.tally.specs.Laws.{FirstAlike};
 ghost use Rattle.tally.specs.Steps.{place, count-in};
 ghost use Rattle.tally.specs.Slots.{held};
 use crate::extent::live;
@@ -40,6 +41,7 @@ fn count_at<K: Copy>(rows: &[Row<K>], at: Option<usize>) -> u32
 /// The place of the first row in use that is alike to the key.
 pub fn find<K: Likeness>(rows: &[Row<K>], head: Head, key: &K) -> Option<usize>
     ensures value { λ r. ⌜ r ≡ place alike (held (now (rows .entry)) head .rows) (now (key .entry)) ⌝ }
+    ensures first { λ r. ⌜ FirstAlike alike (held (now (rows .entry)) head .rows) (now (key .entry)) r ⌝ }
     ensures within { λ r. ⌜ found r (λ i. i < length (now (rows .entry))) ⌝ }
 {
     first_alike(live(rows, head), key)

@@ -6,7 +6,7 @@ ghost use denote.Ref.{name};
 ghost use lib.ListN.{length};
 ghost use Rattle.std.specs.Slices.{found};
 ghost use Rattle.tally.specs.Cases.{Runs};
-ghost use Rattle.tally.specs.Laws.{Tells, TellsOn};
+ghost use Rattle.tally.specs.Laws.{FirstAlike, StillTells, Tells};
 ghost use Rattle.tally.specs.Steps.{place, count-in, run};
 ghost use Rattle.tally.specs.Slots.{held, stepped, head-of, over, room};
 use crate::rows::EMPTY;
@@ -44,6 +44,7 @@ impl<'a, K: Likeness> Tally<'a, K> {
     /// The place of the first row in use that is alike to the key.
     pub fn find(&self, key: &K) -> Option<usize>
         ensures value { λ r. ⌜ r ≡ place alike (held (now (now (self .entry) .rows)) (now (self .entry) .head) .rows) (now (key .entry)) ⌝ }
+        ensures first { λ r. ⌜ FirstAlike alike (held (now (now (self .entry) .rows)) (now (self .entry) .head) .rows) (now (key .entry)) r ⌝ }
         ensures within { λ r. ⌜ found r (λ i. i < length (now (now (self .entry) .rows))) ⌝ }
     {
         find(self.rows, self.head, key)
@@ -61,7 +62,7 @@ impl<'a, K: Likeness> Tally<'a, K> {
         ensures named { λ _. ⌜ name (now (self .exit) .rows) ≡ name (now (self .entry) .rows) ⌝ }
         ensures head { λ _. ⌜ now (self .exit) .head ≡ head-of (stepped alike (now (now (self .entry) .rows)) (now (self .entry) .head) key) ⌝ }
         ensures rows { λ _. ⌜ now (now (self .exit) .rows) ≡ over (stepped alike (now (now (self .entry) .rows)) (now (self .entry) .head) key .rows) (now (now (self .entry) .rows)) ⌝ }
-        ensures tells { λ _. ⌜ TellsOn alike key (now (now (self .entry) .rows)) (now (self .entry) .head) (now (now (self .exit) .rows)) (now (self .exit) .head) ⌝ }
+        ensures tells { λ _. ⌜ StillTells alike key (now (now (self .entry) .rows)) (now (self .entry) .head) (now (now (self .exit) .rows)) (now (self .exit) .head) ⌝ }
         ensures long { λ _. ⌜ length (now (now (self .exit) .rows)) ≡ length (now (now (self .entry) .rows)) ⌝ }
     {
         let Tally { rows, head } = self;

@@ -7,7 +7,7 @@ ghost use lib.Dec.{ltb};
 ghost use lib.ListN.{length, take};
 ghost use Rattle.std.specs.declared.option.Option.the-variants.{Some, None};
 ghost use Rattle.tally.specs.Cases.{Oddities};
-ghost use Rattle.tally.specs.Laws.{TellsOn};
+ghost use Rattle.tally.specs.Laws.{StillTells};
 ghost use Rattle.tally.specs.Slots.{head-of, over, stepped};
 ghost use Rattle.tally.specs.Steps.{fallen, lowered};
 use crate::extent::in_use;
@@ -100,7 +100,7 @@ fn take_key<K: Likeness>(rows: &mut [Row<K>], head: Head, key: K) -> Head
 pub fn step<K: Likeness>(rows: &mut [Row<K>], head: Head, key: K) -> Head
     ensures head { λ r. ⌜ r ≡ head-of (stepped alike (now (rows .entry)) head key) ⌝ }
     ensures rows { λ _. ⌜ now (rows .exit) ≡ over (stepped alike (now (rows .entry)) head key .rows) (now (rows .entry)) ⌝ }
-    ensures tells { λ r. ⌜ TellsOn alike key (now (rows .entry)) head (now (rows .exit)) r ⌝ }
+    ensures tells { λ r. ⌜ StillTells alike key (now (rows .entry)) head (now (rows .exit)) r ⌝ }
     ensures odd { λ _. ⌜ Oddities ⌝ }
 {
     take_key(rows, head, key)

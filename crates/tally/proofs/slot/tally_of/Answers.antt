@@ -7,11 +7,11 @@ use Rattle.tally.proofs.slot.tally_of.Needs as need
 pub returns : need.returns
 returns g c =
     let alike = g .K·Likeness .alike in
-    let first = room (c .args .rows .now) in
+    let most = room (c .args .rows .now) in
     let keys = c .args .keys .now in
     record {
       head = c .run .ensures .head;
       held = c .run .ensures .held;
-      tells = λ small. subst (Tells alike first keys) (sym (c .run .ensures .held)) (run-tells alike (g .K·Likeness·met .symmetric) (g .K·Likeness·met .transitive) first keys small);
+      tells = λ small. subst (Tells alike most keys) (sym (c .run .ensures .held)) (run-tells alike (g .K·Likeness·met .symmetric) (g .K·Likeness·met .transitive) most keys small);
       worked = record { four = refl; six = refl; own-key = refl };
     }

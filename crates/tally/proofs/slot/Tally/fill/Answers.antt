@@ -16,9 +16,9 @@ loop-key-again g c =
     let tally = c .loop-key .self in
     let inv = c .loop-key .inv in
     let key = c .key-item .result in
-    let first = room (c .args .self .now .rows .now) in
-    let more : stepped alike (tally .rows .now) (tally .head) key ≡ run alike first (take (i + 1) keys) =
-    (λ t. step alike (min (inv .1 t) 4294967295) (inv .3 t) (c .key-item .is t)) ∙ sym (folded-more (step alike first) empty keys i key (c .loop-key-test .taken)) in (
+    let most = room (c .args .self .now .rows .now) in
+    let more : stepped alike (tally .rows .now) (tally .head) key ≡ run alike most (take (i + 1) keys) =
+    (λ t. step alike (min (inv .1 t) 4294967295) (inv .3 t) (c .key-item .is t)) ∙ sym (folded-more (step alike most) empty keys i key (c .loop-key-test .taken)) in (
       c .step .ensures .named ∙ inv .0,
       c .step .ensures .long ∙ inv .1,
       c .step .ensures .head ∙ ap head-of more,
@@ -28,9 +28,9 @@ loop-key-again g c =
 pub returns : need.returns
 returns g c =
     let all = take-all (c .loop-key .key-index) (c .args .keys .now) (c .loop-key-test .left) in
-    let first = room (c .args .self .now .rows .now) in
+    let most = room (c .args .self .now .rows .now) in
     record {
       named = c .loop-key .inv .0;
-      head = c .loop-key .inv .2 ∙ ap (λ keys. head-of (run (g .K·Likeness .alike) first keys)) all;
-      held = c .loop-key .inv .3 ∙ ap (run (g .K·Likeness .alike) first) all;
+      head = c .loop-key .inv .2 ∙ ap (λ keys. head-of (run (g .K·Likeness .alike) most keys)) all;
+      held = c .loop-key .inv .3 ∙ ap (run (g .K·Likeness .alike) most) all;
     }
