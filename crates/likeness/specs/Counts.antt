@@ -1,4 +1,4 @@
--- What is truly in a window. A window is a list of keys, oldest first; `alike` says which keys count as one. Assumes nothing.
+-- What is truly in a window, which is the list of its keys as they came; `alike` says which of them count as one. Assumes nothing.
 use mathlib.Core.Bool.{Bool, _&&_}
 use mathlib.Core.List.{List}
 use Prim.Native.Nat.{ℕ, _≤_}
@@ -7,7 +7,7 @@ use Rattle.std.specs.shelf.Lists.{countBy}
 use Rattle.likeness.specs.Agree.{same-sounder}
 use Rattle.likeness.specs.declared.sounding.SoundingKey.{SoundingKey}
 
--- how many keys of the window are alike to k
+-- how often the window holds a key that is alike to k
 abbrev pub true-count : {K : Type 0} → (K → K → Bool) → List K → K → ℕ
 true-count alike window k = countBy (λ x. alike x k) window
 

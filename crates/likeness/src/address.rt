@@ -29,7 +29,7 @@ fn same_bytes(bytes: &[u8], other: &[u8]) -> bool
     bytes == other
 }
 
-/// Two address keys are alike when their last three bytes agree: the same kind of sentence, whoever speaks.
+/// Address keys count as one when they name the same kind of sentence, whoever speaks.
 pub impl Likeness for AddressKey as AddressLikeness {
     ghost alike = { λ x y. same-kind (x .bytes) (y .bytes) };
 

@@ -8,7 +8,7 @@ ghost use Rattle.likeness.specs.Counts.{Stands, short-for, true-count, truly-s
 use crate::kind::Likeness;
 use crate::sounding::SoundingKey;
 
-/// How many keys of the window are alike to `key`.
+/// The true count of `key`: how often the window holds a key that is alike to it.
 pub fn true_count<K: Likeness>(window: &[K], key: &K) -> usize
     ensures value { λ r. ⌜ r ≡ true-count alike (now (window .entry)) (now (key .entry)) ⌝ }
     ensures bound { λ r. ⌜ r ≤ length (now (window .entry)) ⌝ }
@@ -34,7 +34,7 @@ fn is_short(key: &SoundingKey, sounder: [u8; 2], class: u8) -> bool
     key.is_of(sounder) && key.band.value() < class
 }
 
-/// How many keys of the window are the sounder's, with a band below `class`.
+/// The sounder's readings in the window that were too shallow for `class`.
 pub fn truly_short(window: &[SoundingKey], sounder: [u8; 2], class: u8) -> usize
     ensures value { λ r. ⌜ r ≡ truly-short (now (window .entry)) sounder class ⌝ }
     ensures bound { λ r. ⌜ r ≤ length (now (window .entry)) ⌝ }

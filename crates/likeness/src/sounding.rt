@@ -24,7 +24,7 @@ impl SoundingKey {
     }
 }
 
-/// Two sounding keys are alike when sounder and band agree.
+/// Sounding keys count as one when they are readings of one sounder in one band.
 pub impl Likeness for SoundingKey as SoundingLikeness {
     ghost alike = { λ x y. same-reading (x .sounder) (x .band .value) (y .sounder) (y .band .value) };
 

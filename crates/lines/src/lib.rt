@@ -1,4 +1,4 @@
-//! Cuts a stream of bytes into lines, in memory that does not grow with a line's length.
+//! Cuts a stream of bytes into lines. However long a line is, the memory for it stays the same.
 //!
 //! A line ends with LF, perhaps with a CR directly before it, which is then part of the end and not of the line's text.
 //! A CR elsewhere is an ordinary byte.

@@ -66,7 +66,7 @@ abbrev pub pointed : List ℕ → List ℕ
 pointed [] = []
 pointed (d ∷ ds) = 46 ∷ d ∷ ds
 
--- a number in metres, by its centimetres: one to four digits, perhaps a point and one or two digits
+-- a number in metres, by its centimetres: one to four digits, behind which a point with one or two more may stand
 pub record Metres (text : List ℕ) (centimetres : ℕ) : Type 0 where
   pub whole : List ℕ
   pub fraction : List ℕ

@@ -1,4 +1,4 @@
--- A tally tells the truth of the keys that came. Assumes nothing but that alike is symmetric and transitive.
+-- A tally tells the truth of the keys that came. Of the laws of a likeness, symmetry and transitivity are used.
 use mathlib.Core.Path.{_≡_, refl}
 use mathlib.Core.Bool.{Bool, true, false, cond}
 use mathlib.Core.List.{List, [], _∷_, _++_}

@@ -45,7 +45,7 @@ abbrev pub before : {K : Type 0} → (K → K → Bool) → List (Row K) → K �
 before alike [] k = 0
 before alike (row ∷ rows) k = cond (alike (row .key) k) 0 (1 + before alike rows k)
 
--- the place of the first row alike to k, counted from 0
+-- where the first such row stands, if one does; the places count from 0
 abbrev pub place : {K : Type 0} → (K → K → Bool) → List (Row K) → K → Option ℕ
 place alike rows k = cond (known alike rows k) (Some (before alike rows k)) None
 
@@ -54,12 +54,12 @@ abbrev pub count-in : {K : Type 0} → (K → K → Bool) → List (Row K) → K
 count-in alike [] k = 0
 count-in alike (row ∷ rows) k = cond (alike (row .key) k) (row .count) (count-in alike rows k)
 
--- the first row alike to k rises by one, and keeps its own key
+-- one more is counted in the first row that is alike to k, and its key stays
 abbrev pub risen : {K : Type 0} → (K → K → Bool) → List (Row K) → K → List (Row K)
 risen alike [] k = []
 risen alike (row ∷ rows) k = cond (alike (row .key) k) (raised row ∷ rows) (row ∷ risen alike rows k)
 
--- every count falls by one, and the rows at 0 leave
+-- one is taken off every count, and rows that are left with 0 are given up
 abbrev pub fallen : {K : Type 0} → List (Row K) → List (Row K)
 fallen rows = kept-by (λ row. ltb 0 (row .count)) (map lowered rows)
 

@@ -42,7 +42,8 @@ fn lowered<K: Copy>(row: Row<K>) -> Option<Row<K>>
     }
 }
 
-// Every count of the first `used` rows falls by one, and the rows at 0 leave. Answers how many stay; they close up.
+// Takes one off the count of each of the first `used` rows and gives up those that are left with 0. The others
+// move together at the front; how many they are is the answer.
 fn settle<K: Copy>(rows: &mut [Row<K>], used: usize) -> usize
     requires { ⌜ used ≤ length (now rows) ⌝ }
     ensures stay { λ r. ⌜ r ≡ length (fallen (take used (now (rows .entry)))) ⌝ }
@@ -94,8 +95,8 @@ fn take_key<K: Likeness>(rows: &mut [Row<K>], head: Head, key: K) -> Head
 
 /// One key comes to the tally in a slot. Answers the slot's new head.
 ///
-/// The first row in use that is alike to the key rises by one. Without one, the key enters as the last row, if
-/// there is room; if not, every count falls by one, the rows at 0 leave, and the key is not kept.
+/// The first row in use that is alike to the key counts one more. Where none is, the key takes the next free row; where
+/// no row is free, one is taken off every count, rows left with 0 are given up, and the key is written nowhere.
 /// A tally that tells of a list of keys tells of the list with this key behind it, up to 4,294,967,295 keys.
 pub fn step<K: Likeness>(rows: &mut [Row<K>], head: Head, key: K) -> Head
     ensures head { λ r. ⌜ r ≡ head-of (stepped alike (now (rows .entry)) head key) ⌝ }
