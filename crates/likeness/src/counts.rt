@@ -8,7 +8,7 @@ use crate::sounding::SoundingKey;
 
 /// The true count of `key`: how often the window holds a key that is alike to it.
 pub fn true_count<K: Likeness>(window: &[K], key: &K) -> usize
-    ensures value { result ≡ true_count alike window.now key.now }
+    ensures value { result ≡ true_count K.alike window.now key.now }
     ensures bound { result ≤ length window.now }
 {
     let mut total = 0;
@@ -20,7 +20,7 @@ pub fn true_count<K: Likeness>(window: &[K], key: &K) -> usize
 
 /// Whether some key of the window is alike to `key`.
 pub fn stands_in<K: Likeness>(window: &[K], key: &K) -> bool
-    ensures { Decides result (Stands alike window.now key.now) }
+    ensures { Decides result (Stands K.alike window.now key.now) }
 {
     true_count(window, key) >= 1
 }

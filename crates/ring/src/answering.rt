@@ -21,7 +21,7 @@ pub(crate) fn answer_count<K: Likeness>(
     heads: usize,
     key: &K,
 ) -> Result<(u32, u32), Refusal>
-    ensures { result ≡ count_answer (needed figures_of need_of ring.now) (length rows.now) heads (exact_count alike ring.now rows.now key.now) }
+    ensures { result ≡ count_answer (needed figures_of need_of ring.now) (length rows.now) heads (exact_count K.alike ring.now rows.now key.now) }
 {
     admit_tables(ring, rows.len(), heads)?;
     let count = count_alike(ring, rows, key);
@@ -36,8 +36,8 @@ pub(crate) fn answer_list<K: Likeness>(
     threshold: u32,
     list: &mut [Entry<K>],
 ) -> Result<usize, Refusal>
-    ensures answer { result ≡ list_answer (needed figures_of need_of ring.now) (length rows.now) heads (figures_of ring.now) threshold (length list.old) (length (listing_of alike ring.now rows.now threshold)) }
-    ensures written { is_ok result ≡ true → list.new ≡ over (listing_of alike ring.now rows.now threshold) list.old }
+    ensures answer { result ≡ list_answer (needed figures_of need_of ring.now) (length rows.now) heads (figures_of ring.now) threshold (length list.old) (length (listing_of K.alike ring.now rows.now threshold)) }
+    ensures written { is_ok result ≡ true → list.new ≡ over (listing_of K.alike ring.now rows.now threshold) list.old }
     ensures kept { is_ok result ≡ false → list.new ≡ list.old }
 {
     admit_list(ring, rows.len(), heads, threshold)?;

@@ -34,7 +34,7 @@ fn entry_at<K: Likeness>(
     place: u32,
 ) -> Option<Entry<K>>
     requires { (place < ring.now.size) × (2 ^ ring.now.setting.span ≤ length rows.now) }
-    ensures { (d : K) → result ≡ named_after alike (exact_count alike ring.now rows.now) threshold (take place (window_of ring.now rows.now)) (slice_index_or (window_of ring.now rows.now) place d) }
+    ensures { (d : K) → result ≡ named_after K.alike (exact_count K.alike ring.now rows.now) threshold (take place (window_of ring.now rows.now)) (slice_index_or (window_of ring.now rows.now) place d) }
 {
     let key = key_at(ring, rows, place);
     if came_before(ring, rows, place, &key) {
@@ -46,7 +46,7 @@ fn entry_at<K: Likeness>(
 // How many entries a list at the threshold has.
 pub(crate) fn count_entries<K: Likeness>(ring: &Ring, rows: &[Row<K>], threshold: u32) -> usize
     requires { 2 ^ ring.now.setting.span ≤ length rows.now }
-    ensures { result ≡ length (listing_of alike ring.now rows.now threshold) }
+    ensures { result ≡ length (listing_of K.alike ring.now rows.now threshold) }
 {
     let mut named = 0;
     for place in 0..ring.size {
@@ -72,8 +72,8 @@ pub(crate) fn write_entries<K: Likeness>(
     threshold: u32,
     list: &mut [Entry<K>],
 )
-    requires { (2 ^ ring.now.setting.span ≤ length rows.now) × (length (listing_of alike ring.now rows.now threshold) ≤ length list.old) }
-    ensures { list.new ≡ over (listing_of alike ring.now rows.now threshold) list.old }
+    requires { (2 ^ ring.now.setting.span ≤ length rows.now) × (length (listing_of K.alike ring.now rows.now threshold) ≤ length list.old) }
+    ensures { list.new ≡ over (listing_of K.alike ring.now rows.now threshold) list.old }
 {
     let mut named = 0;
     for place in 0..ring.size {

@@ -36,7 +36,7 @@ pub(crate) fn key_at<K: Likeness>(ring: &Ring, rows: &[Row<K>], place: u32) -> K
 // How many keys of the window are alike to this one.
 pub(crate) fn count_alike<K: Likeness>(ring: &Ring, rows: &[Row<K>], key: &K) -> u32
     requires { 2 ^ ring.now.setting.span ≤ length rows.now }
-    ensures { result ≡ true_count alike (window_of ring.now rows.now) key.now }
+    ensures { result ≡ true_count K.alike (window_of ring.now rows.now) key.now }
 {
     let mut total = 0;
     for place in 0..ring.size {
@@ -49,7 +49,7 @@ pub(crate) fn count_alike<K: Likeness>(ring: &Ring, rows: &[Row<K>], key: &K) ->
 // key is the nearest: over a whole list it takes no more than one pass for each of the keys that differ.
 pub(crate) fn came_before<K: Likeness>(ring: &Ring, rows: &[Row<K>], place: u32, key: &K) -> bool
     requires { (place ≤ ring.now.size) × (2 ^ ring.now.setting.span ≤ length rows.now) }
-    ensures { result ≡ among alike (take place (window_of ring.now rows.now)) key.now }
+    ensures { result ≡ among K.alike (take place (window_of ring.now rows.now)) key.now }
 {
     for earlier in (0..place).rev() {
         if key_at(ring, rows, earlier).is_alike(key) {

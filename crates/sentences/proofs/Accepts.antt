@@ -1,4 +1,4 @@
--- A run from the first byte reaches the end exactly on the well_shaped sentences.
+-- A run from the first byte reaches the end exactly on the well-shaped sentences.
 use Rattle.std.proofs.Common.{◌≡◌, ℕ, zero, suc, ◌-◌, true, cond, eqb, List, [], ◌∷◌, ◌++◌, length, Some, None, refl, ap, ◌∙◌, ⊎_elim, arith}
 use Rattle.std.specs.List.{AllByRecursion as All}
 use Rattle.std.proofs.lemmas.Bool.{eqb-true}

@@ -68,7 +68,7 @@ found (b ∷ bs) e column c low f =
     (λ (under : column ≤ 80). found_at e column b bs c (found bs) low under f (after e b) refl)
     (cases_lt 80 column)
 
--- bytes that lead anywhere begin a well_shaped sentence, and no others do
+-- bytes that lead anywhere begin a well-shaped sentence, and no others do
 led_begins : (xs : List ℕ) (e : Expect) → run Dollar xs ≡ Some e → Begins xs
 led_begins xs e leads =
     (ending e, accepted_shape (xs ++ ending e) (run_append xs (ending e) Dollar e leads ∙ ending_right e))
@@ -93,7 +93,7 @@ first_wrong xs c f =
       ended = λ end shape. at.short (omega arith) (shape_accepted xs shape);
     }
 
--- without a fault the sentence is well_shaped and short enough
+-- without a fault the sentence is well-shaped and short enough
 pub well_shaped : (xs : List ℕ) → fault_from Dollar 1 xs ≡ None → WellShaped xs × (length xs ≤ 80)
 well_shaped xs f =
     let passes = no_fault xs Dollar 1 (omega arith) f in

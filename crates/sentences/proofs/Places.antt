@@ -1,4 +1,4 @@
--- Where the parts of a well_shaped sentence lie in its bytes.
+-- Where the parts of a well-shaped sentence lie in its bytes.
 use Rattle.std.proofs.Common.{◌≡◌, ℕ, ◌+◌, ◌-◌, List, [], ◌∷◌, ◌++◌, length, get_or, take, drop, sym, refl, ap, ◌∙◌, subst, arith}
 use Rattle.std.proofs.lemmas.List.{length-append, take_at, get_or-append-add}
 use Rattle.sentences.specs.Format.{Shaped}

@@ -27,11 +27,11 @@ pub record Shaped (bytes address fields digits : List ℕ) : Type 0 where
 abbrev pub WellShaped : List ℕ → Type 0
 WellShaped bytes = (address : List ℕ) × (fields : List ℕ) × (digits : List ℕ) × Shaped bytes address fields digits
 
--- bytes that some well_shaped sentence begins with
+-- bytes that some well-shaped sentence begins with
 abbrev pub Begins : List ℕ → Type 0
 Begins bytes = (rest : List ℕ) × WellShaped (bytes ++ rest)
 
--- The first wrong column, from 1: what stands before it begins a well_shaped sentence. With the byte
+-- The first wrong column, from 1: what stands before it begins a well-shaped sentence. With the byte
 -- at the column it begins none, or the bytes end too early, or the column is the one past the limit.
 pub record FirstWrong (bytes : List ℕ) (column : ℕ) : Type 0 where
   pub from_one : 1 ≤ column

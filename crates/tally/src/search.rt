@@ -11,7 +11,7 @@ use likeness::Likeness;
 
 // The place of the first row that is alike to the key.
 fn first_alike<K: Likeness>(rows: &[Row<K>], key: &K) -> Option<usize>
-    ensures value { result ≡ place alike rows.now key.now }
+    ensures value { result ≡ place K.alike rows.now key.now }
     ensures within { IfSome result (λ i. i < length rows.now) }
 {
     for place in 0..rows.len() {
@@ -36,8 +36,8 @@ fn count_at<K: Copy>(rows: &[Row<K>], at: Option<usize>) -> u32
 
 /// The place of the first row in use that is alike to the key.
 pub fn find<K: Likeness>(rows: &[Row<K>], head: Head, key: &K) -> Option<usize>
-    ensures value { result ≡ place alike (held rows.now head).rows key.now }
-    ensures first { FirstAlike alike (held rows.now head).rows key.now result }
+    ensures value { result ≡ place K.alike (held rows.now head).rows key.now }
+    ensures first { FirstAlike K.alike (held rows.now head).rows key.now result }
     ensures within { IfSome result (λ i. i < length rows.now) }
 {
     first_alike(live(rows, head), key)
@@ -45,7 +45,7 @@ pub fn find<K: Likeness>(rows: &[Row<K>], head: Head, key: &K) -> Option<usize>
 
 /// What a slot counts of the key: the count of the first row in use that is alike, or 0.
 pub fn count_of<K: Likeness>(rows: &[Row<K>], head: Head, key: &K) -> u32
-    ensures { result ≡ count_in alike (held rows.now head).rows key.now }
+    ensures { result ≡ count_in K.alike (held rows.now head).rows key.now }
 {
     count_at(rows, find(rows, head, key))
 }

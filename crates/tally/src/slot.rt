@@ -37,8 +37,8 @@ impl<'a, K: Likeness> Tally<'a, K> {
 
     /// The place of the first row in use that is alike to the key.
     pub fn find(&self, key: &K) -> Option<usize>
-        ensures value { result ≡ place alike (held self.now.rows.now self.now.head).rows key.now }
-        ensures first { FirstAlike alike (held self.now.rows.now self.now.head).rows key.now result }
+        ensures value { result ≡ place K.alike (held self.now.rows.now self.now.head).rows key.now }
+        ensures first { FirstAlike K.alike (held self.now.rows.now self.now.head).rows key.now result }
         ensures within { IfSome result (λ i. i < length self.now.rows.now) }
     {
         find(self.rows, self.head, key)
@@ -46,7 +46,7 @@ impl<'a, K: Likeness> Tally<'a, K> {
 
     /// What the slot counts of the key: the count of the first row in use that is alike, or 0.
     pub fn count_of(&self, key: &K) -> u32
-        ensures { result ≡ count_in alike (held self.now.rows.now self.now.head).rows key.now }
+        ensures { result ≡ count_in K.alike (held self.now.rows.now self.now.head).rows key.now }
     {
         count_of(self.rows, self.head, key)
     }
@@ -54,9 +54,9 @@ impl<'a, K: Likeness> Tally<'a, K> {
     /// One key comes.
     pub fn step(&mut self, key: K)
         ensures named { self.new.rows.ghost_name ≡ self.old.rows.ghost_name }
-        ensures head { self.new.head ≡ head_of (stepped alike self.old.rows.now self.old.head key) }
-        ensures rows { self.new.rows.now ≡ over (stepped alike self.old.rows.now self.old.head key).rows self.old.rows.now }
-        ensures tells { StillTells alike key self.old.rows.now self.old.head self.new.rows.now self.new.head }
+        ensures head { self.new.head ≡ head_of (stepped K.alike self.old.rows.now self.old.head key) }
+        ensures rows { self.new.rows.now ≡ over (stepped K.alike self.old.rows.now self.old.head key).rows self.old.rows.now }
+        ensures tells { StillTells K.alike key self.old.rows.now self.old.head self.new.rows.now self.new.head }
         ensures long { length self.new.rows.now ≡ length self.old.rows.now }
     {
         let Tally { rows, head } = self;
@@ -67,8 +67,8 @@ impl<'a, K: Likeness> Tally<'a, K> {
     fn fill(&mut self, keys: &[K])
         requires { self.old.head ≡ record { used = 0; lost = 0 } }
         ensures named { self.new.rows.ghost_name ≡ self.old.rows.ghost_name }
-        ensures head { self.new.head ≡ head_of (run alike (room self.old.rows.now) keys.now) }
-        ensures held { held self.new.rows.now self.new.head ≡ run alike (room self.old.rows.now) keys.now }
+        ensures head { self.new.head ≡ head_of (run K.alike (room self.old.rows.now) keys.now) }
+        ensures held { held self.new.rows.now self.new.head ≡ run K.alike (room self.old.rows.now) keys.now }
     {
         for key in keys {
             self.step(*key);
@@ -78,8 +78,8 @@ impl<'a, K: Likeness> Tally<'a, K> {
 
 // What `tally_of` does. It stands apart, so that the laws on `tally_of` can speak of the rows that it left.
 fn run<K: Likeness>(rows: &mut [Row<K>], keys: &[K]) -> Head
-    ensures head { result ≡ head_of (run alike (room rows.old) keys.now) }
-    ensures held { held rows.new result ≡ run alike (room rows.old) keys.now }
+    ensures head { result ≡ head_of (run K.alike (room rows.old) keys.now) }
+    ensures held { held rows.new result ≡ run K.alike (room rows.old) keys.now }
 {
     let mut tally = Tally::new(rows, EMPTY);
     tally.fill(keys);
@@ -90,9 +90,9 @@ fn run<K: Likeness>(rows: &mut [Row<K>], keys: &[K]) -> Head
 ///
 /// Up to 4,294,967,295 keys, its counts bracket how often each key came.
 pub fn tally_of<K: Likeness>(rows: &mut [Row<K>], keys: &[K]) -> Head
-    ensures head { result ≡ head_of (run alike (room rows.old) keys.now) }
-    ensures held { held rows.new result ≡ run alike (room rows.old) keys.now }
-    ensures tells { length keys.now < 2 ^ 32 → Tells alike (room rows.old) keys.now (held rows.new result) }
+    ensures head { result ≡ head_of (run K.alike (room rows.old) keys.now) }
+    ensures held { held rows.new result ≡ run K.alike (room rows.old) keys.now }
+    ensures tells { length keys.now < 2 ^ 32 → Tells K.alike (room rows.old) keys.now (held rows.new result) }
     ensures worked { Runs }
 {
     run(rows, keys)

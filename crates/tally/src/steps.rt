@@ -56,8 +56,8 @@ fn settle<K: Copy>(rows: &mut [Row<K>], used: usize) -> usize
 
 // What `step` does. It stands apart, so that the laws on `step` are owed at one return and not at three.
 fn take_key<K: Likeness>(rows: &mut [Row<K>], head: Head, key: K) -> Head
-    ensures head { result ≡ head_of (stepped alike rows.old head key) }
-    ensures rows { rows.new ≡ over (stepped alike rows.old head key).rows rows.old }
+    ensures head { result ≡ head_of (stepped K.alike rows.old head key) }
+    ensures rows { rows.new ≡ over (stepped K.alike rows.old head key).rows rows.old }
 {
     let room = room_of(rows.len());
     let used = in_use(rows.len(), head);
@@ -93,9 +93,9 @@ fn take_key<K: Likeness>(rows: &mut [Row<K>], head: Head, key: K) -> Head
 /// no row is free, one is taken off every count, rows left with 0 are given up, and the key is written nowhere.
 /// A tally that tells of a list of keys tells of the list with this key behind it, up to 4,294,967,295 keys.
 pub fn step<K: Likeness>(rows: &mut [Row<K>], head: Head, key: K) -> Head
-    ensures head { result ≡ head_of (stepped alike rows.old head key) }
-    ensures rows { rows.new ≡ over (stepped alike rows.old head key).rows rows.old }
-    ensures tells { StillTells alike key rows.old head rows.new result }
+    ensures head { result ≡ head_of (stepped K.alike rows.old head key) }
+    ensures rows { rows.new ≡ over (stepped K.alike rows.old head key).rows rows.old }
+    ensures tells { StillTells K.alike key rows.old head rows.new result }
     ensures odd { Oddities }
 {
     take_key(rows, head, key)

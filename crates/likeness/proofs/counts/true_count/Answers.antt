@@ -5,7 +5,7 @@ use Rattle.likeness.proofs.counts.true_count.Goals as goal
 
 pub loop-other-preserved : goal.loop-other-preserved
 loop-other-preserved g c =
-    counted_more (λ x. g.K.Likeness.alike x c.args.key.now) c.args.window.now c.loop-other.other-index c.other-item.result c.is-alike.result c.loop-other.total c.loop-other-test.true c.other-item.is c.is-alike.ensures c.loop-other.invariant
+    counted_more (λ x. g.K.Likeness.alike x c.args.key.now) c.args.window.now c.loop-other.other-index c.other-item.result c.is_alike.result c.loop-other.total c.loop-other-test.true c.other-item.is c.is_alike.ensures c.loop-other.invariant
 
 pub returns : goal.returns
 returns g c = record {

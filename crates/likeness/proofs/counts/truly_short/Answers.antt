@@ -6,7 +6,7 @@ use Rattle.likeness.proofs.counts.truly_short.Goals as goal
 
 pub loop-key-preserved : goal.loop-key-preserved
 loop-key-preserved c =
-    counted_more (short_for c.args.sounder c.args.class) c.args.window.now c.loop-key.key-index c.key-item.result c.is-short.result c.loop-key.count c.loop-key-test.true c.key-item.is c.is-short.ensures c.loop-key.invariant
+    counted_more (short_for c.args.sounder c.args.class) c.args.window.now c.loop-key.key-index c.key-item.result c.is_short.result c.loop-key.count c.loop-key-test.true c.key-item.is c.is_short.ensures c.loop-key.invariant
 
 pub returns : goal.returns
 returns c = record {

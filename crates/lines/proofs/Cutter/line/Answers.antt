@@ -7,4 +7,4 @@ use Rattle.lines.proofs.Cutter.line.Goals as goal
 pub returns : goal.returns
 returns c =
     let value = line_of_length c.args.self.now.bytes c.args.self.now.len (omega arith) (omega arith) in
-    record { value = simp (sub-zero, c.line-length-count.ensures.value) value; text = λ raw after. simp (sub-zero, c.line-length-count.ensures.value) (value ∙ ap line_of after ∙ line_of_take raw) }
+    record { value = simp (sub-zero, c.line_length-count.ensures.value) value; text = λ raw after. simp (sub-zero, c.line_length-count.ensures.value) (value ∙ ap line_of after ∙ line_of_take raw) }

@@ -5,7 +5,7 @@ use Rattle.keeper.proofs.Writings.{counted_some, counted_none}
 use Rattle.ring.specs.Rings.{exact_count, window_of}
 use Rattle.ring.proofs.Rounds.{window_length}
 use Rattle.ring.proofs.naming.count_entries.Goals as goal
-use Rattle.ring.proofs.naming.count_entries.Goals.{in-Some, in-default}
+use Rattle.ring.proofs.naming.count_entries.Goals.{in-Some, in_default}
 
 pub loop-place-preserved : goal.loop-place-preserved
 loop-place-preserved g c =
@@ -15,9 +15,9 @@ loop-place-preserved g c =
     let place = c.loop-place.place in
     let within : place < length window = omega (arith, window_length c.args.ring.now c.args.rows.now c.requires) in
     let inv = c.loop-place.invariant in
-    elim c.match-entry-at.branch [
+    elim c.match-entry_at.branch [
       | in-Some w ↦ (w.named-is ∙ counted_some alike bracket c.args.threshold window place within c.loop-place.named inv.0 _ w.in-Some.ensures, omega (arith, w.named-is, inv.1))
-      | in-default w ↦ (w.named-is ∙ counted_none alike bracket c.args.threshold window place within c.loop-place.named inv.0 w.in-default.ensures, omega (arith, w.named-is, inv.1))
+      | in_default w ↦ (w.named-is ∙ counted_none alike bracket c.args.threshold window place within c.loop-place.named inv.0 w.in_default.ensures, omega (arith, w.named-is, inv.1))
     ]
 
 pub returns : goal.returns

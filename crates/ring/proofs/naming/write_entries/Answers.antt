@@ -6,10 +6,10 @@ use Rattle.keeper.proofs.Writings.{counted_some, counted_none, written_room, wri
 use Rattle.ring.specs.Rings.{exact_count, window_of}
 use Rattle.ring.proofs.Rounds.{window_length}
 use Rattle.ring.proofs.naming.write_entries.Goals as goal
-use Rattle.ring.proofs.naming.write_entries.Goals.{in-Some, in-default}
+use Rattle.ring.proofs.naming.write_entries.Goals.{in-Some, in_default}
 
-pub write-at-requires : goal.write-at-requires
-write-at-requires g c =
+pub write_at-requires : goal.write_at-requires
+write_at-requires g c =
     let alike = g.K.Likeness.alike in
     let window = window_of c.args.ring.now c.args.rows.now in
     let bracket = exact_count alike c.args.ring.now c.args.rows.now in
@@ -29,16 +29,16 @@ loop-place-preserved g c =
     let given = c.args.list.now in
     let list = c.loop-place.list in
     let inv = c.loop-place.invariant in
-    elim c.match-entry-at.branch [
+    elim c.match-entry_at.branch [
       | in-Some w ↦ (
         w.named-is ∙ counted_some alike bracket c.args.threshold window place within named inv.0 _ w.in-Some.ensures,
         omega (arith, w.named-is, inv.1),
-        w.list-is ∙ w.write-at.ensures ∙ written_some alike bracket c.args.threshold window place within named inv.0 given list inv.2 c.requires.1 _ w.in-Some.ensures,
+        w.list-is ∙ w.write_at.ensures ∙ written_some alike bracket c.args.threshold window place within named inv.0 given list inv.2 c.requires.1 _ w.in-Some.ensures,
       )
-      | in-default w ↦ (
-        w.named-is ∙ counted_none alike bracket c.args.threshold window place within named inv.0 w.in-default.ensures,
+      | in_default w ↦ (
+        w.named-is ∙ counted_none alike bracket c.args.threshold window place within named inv.0 w.in_default.ensures,
         omega (arith, w.named-is, inv.1),
-        w.list-is ∙ written_none alike bracket c.args.threshold window place within named inv.0 given list inv.2 w.in-default.ensures,
+        w.list-is ∙ written_none alike bracket c.args.threshold window place within named inv.0 given list inv.2 w.in_default.ensures,
       )
     ]
 

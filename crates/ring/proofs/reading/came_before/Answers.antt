@@ -5,17 +5,17 @@ use Rattle.ring.proofs.Looking.{back_hit, back_miss}
 use Rattle.ring.proofs.Rounds.{window_length}
 use Rattle.ring.proofs.reading.came_before.Goals as goal
 
-pub returns-then-is-alike : goal.returns-then-is-alike
-returns-then-is-alike g c =
+pub returns-then-is_alike : goal.returns-then-is_alike
+returns-then-is_alike g c =
     let window = window_of c.args.ring.now c.args.rows.now in
-    let key = c.key-at.result in
-    sym (c.loop-earlier.invariant ∙ back_hit g.K.Likeness.alike window c.loop-earlier.earlier key c.args.key.now (omega arith) (omega (arith, window_length c.args.ring.now c.args.rows.now c.requires.1)) (c.key-at.ensures key) (sym c.if-is-alike.ensures))
+    let key = c.key_at.result in
+    sym (c.loop-earlier.invariant ∙ back_hit g.K.Likeness.alike window c.loop-earlier.earlier key c.args.key.now (omega arith) (omega (arith, window_length c.args.ring.now c.args.rows.now c.requires.1)) (c.key_at.ensures key) (sym c.if-is_alike.ensures))
 
 pub loop-earlier-preserved : goal.loop-earlier-preserved
 loop-earlier-preserved g c =
     let window = window_of c.args.ring.now c.args.rows.now in
-    let key = c.key-at.result in
-    c.loop-earlier.invariant ∙ back_miss g.K.Likeness.alike window c.loop-earlier.earlier key c.args.key.now (omega arith) (omega (arith, window_length c.args.ring.now c.args.rows.now c.requires.1)) (c.key-at.ensures key) (sym c.if-is-alike.ensures)
+    let key = c.key_at.result in
+    c.loop-earlier.invariant ∙ back_miss g.K.Likeness.alike window c.loop-earlier.earlier key c.args.key.now (omega arith) (omega (arith, window_length c.args.ring.now c.args.rows.now c.requires.1)) (c.key_at.ensures key) (sym c.if-is_alike.ensures)
 
 pub returns : goal.returns
 returns g c =

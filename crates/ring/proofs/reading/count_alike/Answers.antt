@@ -9,13 +9,13 @@ use Rattle.ring.proofs.reading.count_alike.Goals as goal
 pub loop-place-preserved : goal.loop-place-preserved
 loop-place-preserved g c =
     let window = window_of c.args.ring.now c.args.rows.now in
-    let key = c.key-at.result in
-    counted_more (λ x. g.K.Likeness.alike x c.args.key.now) window c.loop-place.place key c.is-alike.result c.loop-place.total
+    let key = c.key_at.result in
+    counted_more (λ x. g.K.Likeness.alike x c.args.key.now) window c.loop-place.place key c.is_alike.result c.loop-place.total
     (omega (arith, window_length c.args.ring.now c.args.rows.now c.requires))
-    (c.key-at.ensures key) c.is-alike.ensures c.loop-place.invariant
+    (c.key_at.ensures key) c.is_alike.ensures c.loop-place.invariant
 
-pub overflow-add-total : goal.overflow-add-total
-overflow-add-total g c = omega (arith, (loop-place-preserved g c).1)
+pub overflow_add-total : goal.overflow_add-total
+overflow_add-total g c = omega (arith, (loop-place-preserved g c).1)
 
 pub returns : goal.returns
 returns g c =

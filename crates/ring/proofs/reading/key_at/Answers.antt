@@ -7,6 +7,6 @@ pub returns : goal.returns
 returns g c d =
     let ring = c.args.ring.now in
     let rows = c.args.rows.now in
-    let row = c.index-rows-row-of.result in
-    ap (λ i. (get_or rows i row).key) c.row-of.ensures.value
+    let row = c.index-rows-row_of.result in
+    ap (λ i. (get_or rows i row).key) c.row_of.ensures.value
     ∙ sym (keys_get_or rows (2 ^ ring.setting.span) (pow_pos _) c.requires.1 (ring.puts - ring.size) ring.size c.args.place d row c.requires.0)

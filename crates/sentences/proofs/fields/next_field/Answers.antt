@@ -9,7 +9,7 @@ returns c =
     let long : 1 ≤ length c.args.fields.now = omega (arith, ltb-false) in
     let rest : length (rest_of c.args.fields.now) + 1 ≡ length c.args.fields.now = omega (arith, ap length (take_rest c.args.fields.now 1), length-drop 1 c.args.fields.now) in
     let at = next_field_rest c.args.fields.now long in
-    let length_is = c.run-length.ensures.value in
-    let front = c.split-at.ensures.front in
-    let back = c.split-at.ensures.back in
+    let length_is = c.run_length.ensures.value in
+    let front = c.split_at.ensures.front in
+    let back = c.split_at.ensures.back in
     record { value = cc; lengths = omega arith }

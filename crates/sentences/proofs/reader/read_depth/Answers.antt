@@ -5,7 +5,7 @@ use Rattle.sentences.proofs.reader.read_depth.Goals as goal
 pub returns : goal.returns
 returns c =
     let bytes = c.args.bytes.now in
-    let value = c.parse-depth.ensures in
+    let value = c.parse_depth.ensures in
     record {
       value = value;
       exactly = reading_exactly bytes _ value;

@@ -15,21 +15,21 @@ pinned xs r is = (is, λ none. shape_lengths xs (sym is ∙ none))
 decides : (xs : List ℕ) (i : ℕ) (e : Expect) (r : Option ℕ) → i < length xs → fault_from e (i + 1) (get_or xs i 0 ∷ drop (i + 1) xs) ≡ r → fault_from e (i + 1) (drop i xs) ≡ shape_fault xs → r ≡ shape_fault xs
 decides xs i e r within is inv = sym (at_drop_more (fault_from e (i + 1)) xs i 0 within ∙ is) ∙ inv
 
-pub returns-then-is-past-limit : goal.returns-then-is-past-limit
-returns-then-is-past-limit c =
+pub returns-then-is_past_limit : goal.returns-then-is_past_limit
+returns-then-is_past_limit c =
     let xs = c.args.bytes.now in
     let i = c.loop-i.i in
-    let past = ltb-true 80 (i + 1) (sym c.if-is-past-limit.ensures) in
+    let past = ltb-true 80 (i + 1) (sym c.if-is_past_limit.ensures) in
     let over = byte_over c.loop-i.expect (i + 1) (get_or xs i 0) (drop (i + 1) xs) past in
     let r = pinned xs _ (decides xs i c.loop-i.expect _ c.loop-i-test.true over c.loop-i.invariant) in
     record { value = r.0; lengths = r.1 }
 
-pub returns-in-default : goal.returns-in-default
-returns-in-default c =
+pub returns-in_default : goal.returns-in_default
+returns-in_default c =
     let xs = c.args.bytes.now in
     let i = c.loop-i.i in
-    let under = ltb-false 80 (i + 1) (sym c.if-is-past-limit.ensures) in
-    let wrong = byte_wrong c.loop-i.expect (i + 1) (get_or xs i 0) (drop (i + 1) xs) under (sym c.next.ensures ∙ c.in-default.is) in
+    let under = ltb-false 80 (i + 1) (sym c.if-is_past_limit.ensures) in
+    let wrong = byte_wrong c.loop-i.expect (i + 1) (get_or xs i 0) (drop (i + 1) xs) under (sym c.next.ensures ∙ c.in_default.is) in
     let r = pinned xs _ (decides xs i c.loop-i.expect _ c.loop-i-test.true wrong c.loop-i.invariant) in
     record { value = r.0; lengths = r.1 }
 
@@ -37,7 +37,7 @@ pub loop-i-preserved : goal.loop-i-preserved
 loop-i-preserved c =
     let xs = c.args.bytes.now in
     let i = c.loop-i.i in
-    let under = ltb-false 80 (i + 1) (sym c.if-is-past-limit.ensures) in
+    let under = ltb-false 80 (i + 1) (sym c.if-is_past_limit.ensures) in
     let right = byte_right c.loop-i.expect (i + 1) (get_or xs i 0) (drop (i + 1) xs) c.in-Some.following under (sym c.next.ensures ∙ c.in-Some.is) in
     decides xs i c.loop-i.expect _ c.loop-i-test.true right c.loop-i.invariant
 
@@ -46,6 +46,6 @@ returns c =
     let xs = c.args.bytes.now in
     let i = c.loop-i.i in
     let e = c.loop-i.expect in
-    let last = c.end-fault.ensures ∙ ap (λ n. end_fault e (n + 1)) (omega arith) in
+    let last = c.end_fault.ensures ∙ ap (λ n. end_fault e (n + 1)) (omega arith) in
     let r = pinned xs _ (last ∙ sym (at_drop_all (fault_from e (i + 1)) xs i c.loop-i-test.false) ∙ c.loop-i.invariant) in
     record { value = r.0; lengths = r.1 }

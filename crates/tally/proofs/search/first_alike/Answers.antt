@@ -5,14 +5,14 @@ use Rattle.tally.proofs.search.first_alike.Goals as goal
 pub loop-place-init : goal.loop-place-init
 loop-place-init g c = place_start g.K.Likeness.alike c.args.key.now c.args.rows.now
 
-pub returns-then-is-alike : goal.returns-then-is-alike
-returns-then-is-alike g c =
-    let here = place_here g.K.Likeness.alike c.args.key.now c.args.rows.now c.loop-place.place c.index-rows-place.result c.loop-place-test.true (sym c.if-is-alike.ensures) in
+pub returns-then-is_alike : goal.returns-then-is_alike
+returns-then-is_alike g c =
+    let here = place_here g.K.Likeness.alike c.args.key.now c.args.rows.now c.loop-place.place c.index-rows-place.result c.loop-place-test.true (sym c.if-is_alike.ensures) in
     record { value = sym here ∙ c.loop-place.invariant; within = omega arith }
 
 pub loop-place-preserved : goal.loop-place-preserved
 loop-place-preserved g c =
-    let later = place_later g.K.Likeness.alike c.args.key.now c.args.rows.now c.loop-place.place c.index-rows-place.result c.loop-place-test.true (sym c.if-is-alike.ensures) in
+    let later = place_later g.K.Likeness.alike c.args.key.now c.args.rows.now c.loop-place.place c.index-rows-place.result c.loop-place-test.true (sym c.if-is_alike.ensures) in
     sym later ∙ c.loop-place.invariant
 
 pub returns : goal.returns

@@ -10,7 +10,7 @@ returns-in-Some g c =
     let head = c.args.head in
     let found = c.in-Some.ensures.value in
     record {
-      head = (λ t. record { used = c.in-use-used.ensures t; lost = head.lost }) ∙ rise_head alike rows head c.args.key c.in-Some.place found;
+      head = (λ t. record { used = c.in_use-used.ensures t; lost = head.lost }) ∙ rise_head alike rows head c.args.key c.in-Some.place found;
       rows = (λ t. set rows c.in-Some.place (c.joined.ensures t)) ∙ rise_rows alike rows head c.args.key c.in-Some.place found c.index-rows-place.result c.index-rows-place.is;
     }
 
@@ -21,6 +21,6 @@ returns-in-None g c =
     let head = c.args.head in
     let missing = c.in-None.ensures.value in
     record {
-      head = (λ t. record { used = c.in-use-used.ensures t + 1; lost = head.lost }) ∙ enter_head alike rows head c.args.key missing (omega arith);
-      rows = (λ t. set rows (c.in-use-used.ensures t) (entered c.args.key)) ∙ enter_rows alike rows head c.args.key missing (omega arith);
+      head = (λ t. record { used = c.in_use-used.ensures t + 1; lost = head.lost }) ∙ enter_head alike rows head c.args.key missing (omega arith);
+      rows = (λ t. set rows (c.in_use-used.ensures t) (entered c.args.key)) ∙ enter_rows alike rows head c.args.key missing (omega arith);
     }

@@ -9,7 +9,7 @@ loop-byte-init c = (refl, sym (append-nil (string_bytes c.args.out.now)))
 
 pub loop-byte-preserved : goal.loop-byte-preserved
 loop-byte-preserved c =
-    let taken = c.in-ok-take.ensures in
+    let taken = c.in_ok-take.ensures in
     led_more (progress c.args.self.now) (string_bytes c.args.out.now) (progress c.loop-byte.self) (string_bytes c.loop-byte.out) (progress c.take.new.self) (string_bytes c.take.new.out) c.args.piece.now c.loop-byte.byte-index (omega arith) c.loop-byte.invariant taken.0 taken.1
 
 pub returns : goal.returns

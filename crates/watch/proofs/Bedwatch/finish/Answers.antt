@@ -8,7 +8,7 @@ use Rattle.watch.specs.Report.{most_lines, report}
 use Rattle.watch.specs.declared.Bedwatch.{Bedwatch}
 use Rattle.watch.proofs.Reports.{fed_report, report_done}
 use Rattle.watch.proofs.Bedwatch.finish.Goals as goal
-use Rattle.watch.proofs.Bedwatch.finish.Goals.{in-Some+in-ok-treat, in-default}
+use Rattle.watch.proofs.Bedwatch.finish.Goals.{in-Some+in_ok-treat, in_default}
 
 -- The text `after` was printed once a last line was treated, or there was none, and so many readings there were.
 module _ (p : Progress) (out after : List ℕ) (readings : ℕ) where
@@ -25,9 +25,9 @@ module _ (p : Progress) (out after : List ℕ) (readings : ℕ) where
 done : (watch : Bedwatch) (input said more : List ℕ) → Fed watch input said → (progress watch).lines ≡ most_lines → report (input ++ more) ≡ report input
 done watch input said more fed full = report_done input more (omega (arith, ap (λ p. p.lines) fed.came))
 
-pub returns-in-err-treat : goal.returns-in-err-treat
-returns-in-err-treat c = record {
-  value = IfOk-from_err c.from-residual.result _ c.from-residual.ensures.0;
+pub returns-in_err-treat : goal.returns-in_err-treat
+returns-in_err-treat c = record {
+  value = IfOk-from_err c.from_residual.result _ c.from_residual.ensures.0;
   report = fed_report c.args.self.now;
   rest = done c.args.self.now;
   cut = right;
@@ -41,12 +41,12 @@ returns c =
     let readings = c.match-last.counts.readings in
     let said : after ++ readings_text readings ≡ out ++ last_text p =
     elim c.match-last.branch [
-      | in-Some+in-ok-treat w ↦ let text = w.in-Some.text.now in
-          let treated = w.in-ok-treat.ensures in
+      | in-Some+in_ok-treat w ↦ let text = w.in-Some.text.now in
+          let treated = w.in_ok-treat.ensures in
           let printed : after ≡ out ++ line_text p.lines text = ap string_bytes w.out-is ∙ treated.text in
           let counted : readings ≡ readings_after p.lines p.readings text = ap (λ counts. counts.readings) w.counts-is ∙ treated.readings in
           end_some p out after readings text printed counted w.in-Some.ensures.value
-      | in-default w ↦ end_none p out after readings (ap string_bytes w.out-is) (ap (λ counts. counts.readings) w.counts-is) w.in-default.ensures.value
+      | in_default w ↦ end_none p out after readings (ap string_bytes w.out-is) (ap (λ counts. counts.readings) w.counts-is) w.in_default.ensures.value
     ]
     in
     record { value = IfOk-weaker c.append-summary.result _ _ (λ _ is. is ∙ said) c.append-summary.ensures; report = fed_report c.args.self.now; rest = done c.args.self.now; cut = right }

@@ -14,7 +14,7 @@ returns g c =
     let rows = c.args.rows.now in
     let key = c.args.key.now in
     record {
-      answer = c.answer-count.ensures;
+      answer = c.answer_count.ensures;
       right = λ past window t.
           subst (λ keys. Bracket s.setting.accuracy (length keys) (true_count alike keys key) (exact_count alike s rows key)) t.held
           (exact_bracket alike (window_of s rows) s.setting.accuracy key);

@@ -14,9 +14,9 @@ returns g c =
     let rows = c.args.rows.now in
     let threshold = c.args.threshold in
     record {
-      answer = c.answer-list.ensures.answer;
-      written = c.answer-list.ensures.written;
-      kept = c.answer-list.ensures.kept;
+      answer = c.answer_list.ensures.answer;
+      written = c.answer_list.ensures.written;
+      kept = c.answer_list.ensures.kept;
       counts = λ _ _. listed_counts alike (exact_count alike s rows) threshold (window_of s rows);
       right = λ _ asked past window t.
           subst (λ keys. Lists alike s.setting.accuracy threshold keys (listing_of alike s rows threshold)) t.held
