@@ -11,7 +11,7 @@ returns g c =
     let rows = c.args.rows.now in
     let head = c.args.head in
     let key = c.args.key in
-    let done = c.take-key.ensures in
+    let done = c.take_key.ensures in
     record {
       head = done.head;
       rows = done.rows;

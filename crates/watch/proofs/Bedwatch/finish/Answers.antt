@@ -49,4 +49,4 @@ returns c =
       | in_default w ↦ end_none p out after readings (ap string_bytes w.out-is) (ap (λ counts. counts.readings) w.counts-is) w.in_default.ensures.value
     ]
     in
-    record { value = IfOk-weaker c.append-summary.result _ _ (λ _ is. is ∙ said) c.append-summary.ensures; report = fed_report c.args.self.now; rest = done c.args.self.now; cut = right }
+    record { value = IfOk-weaker c.append_summary.result _ _ (λ _ is. is ∙ said) c.append_summary.ensures; report = fed_report c.args.self.now; rest = done c.args.self.now; cut = right }
