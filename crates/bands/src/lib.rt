@@ -1,4 +1,5 @@
 //! Clearance bands: how many of the six ferry classes a clearance under the keel suffices for.
+#![tactic(auto)]
 
 ghost use Rattle.std.specs.Prelude.{◌≡◌, ◌≤◌};
 

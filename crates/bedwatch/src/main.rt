@@ -1,4 +1,5 @@
 //! Reads lines from standard input, and prints which of them are no depth readings, and how many are.
+#![tactic(auto)]
 
 use std::io;
 use std::io::{Read, Write};

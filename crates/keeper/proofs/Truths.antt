@@ -1,5 +1,5 @@
 -- A keeper that is true to a window tells its size and its puts after a put and a drop, too. Assumes nothing.
-use Rattle.std.proofs.Common.{◌≡◌, ℕ, ◌+◌, ◌-◌, List, [], ◌∷◌, ◌++◌, length, ap, ◌∙◌, arith}
+use Rattle.std.proofs.Common.{◌≡◌, List, [], ◌∷◌, ◌++◌, ap, ◌∙◌, arith}
 use Rattle.std.proofs.lemmas.List.{length_push}
 use Rattle.tally.specs.declared.rows.Head.{Head}
 use Rattle.tally.specs.declared.rows.Row.{Row}

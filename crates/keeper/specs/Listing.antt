@@ -1,5 +1,5 @@
 -- The entries of a list, from keys in some order and a bracket for each key. Assumes nothing.
-use Rattle.std.specs.Prelude.{◌≡◌, ℕ, Bool, true, false, cond, not, ◌||◌, leb, List, [], ◌∷◌, map, Some, None, filter, Option, nat_le}
+use Rattle.std.specs.Prelude.{◌≡◌, ℕ, Bool, false, cond, not, ◌||◌, leb, List, [], ◌∷◌, map, Some, None, filter, Option, nat_le}
 use Rattle.std.specs.List.{AllByRecursion as All}
 use Rattle.keeper.specs.declared.entry.Entry.{Entry}
 

@@ -1,4 +1,5 @@
 //! Keepers: anything that can answer counts and lists for a window whose length changes.
+#![tactic(auto)]
 
 mod admission;
 mod entry;

@@ -1,4 +1,5 @@
 //! Kinds of key: what is counted, and which keys count as one.
+#![tactic(auto)]
 
 mod address;
 mod counts;

@@ -113,12 +113,12 @@ mod tests {
 
     #[test]
     fn cr_before_lf_is_no_text(rt: HostRuntime) {
-        assert!(rt; fed(b"a\rb\r").line() == b"a\rb");
+        assert!(rt; fed(b"a\rb\r").line() == &b"a\rb"[..]);
     }
 
     #[test]
     fn cr_at_the_end_of_the_input_is_text(rt: HostRuntime) {
-        assert!(rt; fed(b"a\r").last() == Some(b"a\r"));
+        assert!(rt; fed(b"a\r").last() == Some(&b"a\r"[..]));
     }
 
     #[test]

@@ -4,6 +4,7 @@
 //! A CR elsewhere is an ordinary byte.
 //! At the end of the input, bytes after the last LF are one more line, if there is at least one.
 //! A line is judged by the first 81 bytes of its text, so no more of it are handed out.
+#![tactic(auto)]
 
 ghost use Rattle.std.specs.Prelude.{◌≤◌};
 

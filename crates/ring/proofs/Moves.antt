@@ -1,12 +1,12 @@
 -- A ring that stored a key, or forgot its oldest, has put and dropped as a keeper does. Assumes nothing.
-use Rattle.std.proofs.Common.{◌≡◌, ℕ, ◌+◌, ◌-◌, ◌%◌, ◌^◌, ◌≤◌, true, false, cond, List, [], ◌∷◌, ◌++◌, length, drop, is_ok, Result, sym, refl, ap, ◌∙◌, subst, arith}
+use Rattle.std.proofs.Common.{◌≡◌, ◌-◌, ◌%◌, ◌^◌, true, false, cond, List, [], ◌∷◌, ◌++◌, length, drop, is_ok, Result, sym, refl, ap, ◌∙◌, subst, arith}
 use Rattle.std.proofs.lemmas.Nat.{mod_below, pow_pos}
 use Rattle.std.proofs.lemmas.List.{drop-set-lt}
 use Rattle.std.proofs.lemmas.Bool.{cond_both}
 use Rattle.keeper.specs.declared.refusal.Refusal.{Refusal}
 use Rattle.keeper.specs.Figures.{Figures, grown, shrunk}
 use Rattle.keeper.specs.Refusals.{drop_answer, needed, put_answer}
-use Rattle.keeper.specs.Rules.{Dropped, Put, TrueTo}
+use Rattle.keeper.specs.Rules.{Dropped, Put}
 use Rattle.keeper.proofs.Admits.{put_admitted}
 use Rattle.keeper.proofs.Truths.{true_drop, true_put}
 use Rattle.tally.specs.declared.rows.Head.{Head}

@@ -1,4 +1,5 @@
 //! The ring: the keeper that stores its whole window.
+#![tactic(auto)]
 
 mod answering;
 mod figures;

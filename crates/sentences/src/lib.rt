@@ -1,4 +1,5 @@
 //! Reads NMEA 0183 sentences: the address of any, and the clearance of a depth sentence.
+#![tactic(auto)]
 
 mod error;
 mod fields;

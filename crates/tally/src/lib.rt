@@ -1,4 +1,5 @@
 //! The tally: a Misra-Gries summary of keys, in rows that the caller lends.
+#![tactic(auto)]
 
 mod extent;
 mod rows;

@@ -3,6 +3,7 @@
 //! A line of the input that is no reading is refused: `line 7 refused 13 at 18` gives its number from 1, the refusal's number and the column.
 //! At the end stands how many lines were readings: `readings 42`.
 //! The first million lines are treated, and what follows them is ignored.
+#![tactic(auto)]
 
 ghost use Rattle.std.specs.Prelude.{◌≤◌};
 ghost use Rattle.watch.specs.Report.{most_lines};
