@@ -5,18 +5,18 @@ use Rattle.std.proofs.ByRecursion.{All-map, All-weaker, all_kept_by, kept_by_pas
 use Rattle.std.proofs.lemmas.List.{append-nil, map-append, take_more, length_push, take-append-drop, append_assoc}
 use Rattle.std.proofs.lemmas.List.Sums.{sum_by-cons, count_by-le-length}
 use Rattle.std.proofs.lemmas.Bool.{both_ways, cond_both, not-true, or_left, or_right, le-leb, leb-true}
-use Rattle.std.specs.List.{AllByRecursion as All}
+use Rattle.std.specs.List.{AllByRecursion}
 use Rattle.likeness.specs.Counts.{Stands, true_count}
 use Rattle.likeness.proofs.Counting.{true_count_same}
 use Rattle.keeper.specs.declared.entry.Entry.{Entry}
 use Rattle.keeper.specs.Listing.{Apart, among, firsts, listed, named_after, entry_of, bracket_in}
 use Rattle.keeper.specs.Rules.{Bracket, Lists}
 
-all_both : {X : Type 0} (P Q : X → Type 0) (xs : List X) → All P xs → All Q xs → All (λ x. P x × Q x) xs
+all_both : {X : Type 0} (P Q : X → Type 0) (xs : List X) → AllByRecursion P xs → AllByRecursion Q xs → AllByRecursion (λ x. P x × Q x) xs
 all_both P Q [] p q = tt
 all_both P Q (x ∷ xs) p q = ((p.0, q.0), all_both P Q xs p.1 q.1)
 
-all_of : {X : Type 0} (P : X → Type 0) → ((x : X) → P x) → (xs : List X) → All P xs
+all_of : {X : Type 0} (P : X → Type 0) → ((x : X) → P x) → (xs : List X) → AllByRecursion P xs
 all_of P h [] = tt
 all_of P h (x ∷ xs) = (h x, all_of P h xs)
 
@@ -37,7 +37,7 @@ module _ {K : Type 0} (alike : K → K → Bool) where
       ap (λ ys. x ∷ filter (λ other. not (alike x other)) ys) (firsts_push xs k)
       ∙ first_more (λ other. not (alike x other)) x k (firsts alike xs) (alike x k) (among alike xs k) refl
 
-  all_firsts : (P : K → Type 0) (xs : List K) → All P xs → All P (firsts alike xs)
+  all_firsts : (P : K → Type 0) (xs : List K) → AllByRecursion P xs → AllByRecursion P (firsts alike xs)
   all_firsts P [] h = tt
   all_firsts P (x ∷ xs) h = (h.0, all_kept_by (λ other. not (alike x other)) P (firsts alike xs) (all_firsts P xs h.1))
 
@@ -112,7 +112,7 @@ module _ {K : Type 0} (alike : K → K → Bool) where
     listed_front xs i = subst (λ zs. length (listed alike bracket threshold (take i xs)) ≤ length (listed alike bracket threshold zs)) (take-append-drop i xs) (listed_longer (take i xs) (drop i xs))
 
     -- each entry has its key's bracket
-    pub listed_counts : (xs : List K) → All (λ e. bracket_in e ≡ bracket e.key) (listed alike bracket threshold xs)
+    pub listed_counts : (xs : List K) → AllByRecursion (λ e. bracket_in e ≡ bracket e.key) (listed alike bracket threshold xs)
     listed_counts xs = All-map (λ e. bracket_in e ≡ bracket e.key) (λ k. entry_of k (bracket k)) _ (all_of (λ k. bracket k ≡ bracket k) (λ _. refl) _)
 
     listed_keys : (ks : List K) → map (λ e. e.key) (map (λ k. entry_of k (bracket k)) ks) ≡ ks
@@ -128,7 +128,7 @@ module _ {K : Type 0} (alike : K → K → Bool) where
       grind arith
 
   -- each key of a window stands in it
-  pub all_stand : ((x : K) → alike x x ≡ true) → (xs : List K) → All (Stands alike xs) xs
+  pub all_stand : ((x : K) → alike x x ≡ true) → (xs : List K) → AllByRecursion (Stands alike xs) xs
   all_stand self [] = tt
   all_stand self (x ∷ xs) =
       let here = self x in
@@ -153,13 +153,13 @@ module _ {K : Type 0} (alike : K → K → Bool) where
     -- brackets that are right for a window, and keys that stand in it and miss none that counts the threshold: the list is right
     pub listed_lists : (a threshold : ℕ) (bracket : K → ℕ × ℕ) (keys window : List K)
         → ((k : K) → Bracket a (length window) (true_count alike window k) (bracket k))
-        → All (Stands alike window) keys
+        → AllByRecursion (Stands alike window) keys
         → ((k : K) → threshold ≤ true_count alike window k → among alike keys k ≡ true)
         → Lists alike a threshold window (listed alike bracket threshold keys)
     listed_lists a threshold bracket keys window right stand cover =
         let test : K → Bool = λ k. leb threshold (bracket k).1 in
         let named : List K = filter test (firsts alike keys) in
-        let standing : All (Stands alike window) named = all_kept_by test (Stands alike window) (firsts alike keys) (all_firsts (Stands alike window) keys stand) in
+        let standing : AllByRecursion (Stands alike window) named = all_kept_by test (Stands alike window) (firsts alike keys) (all_firsts (Stands alike window) keys stand) in
         let near_threshold : (k : K) → threshold ≤ (bracket k).1 → Stands alike window k → 2 ^ a * (threshold - true_count alike window k) < length window =
         λ k high stands.
         let gap : threshold - true_count alike window k ≤ (bracket k).1 - (bracket k).0 = omega (arith, (right k).floor) in

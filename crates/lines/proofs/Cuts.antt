@@ -1,12 +1,12 @@
 -- The lines of an input are its one right cut.
 use Rattle.std.proofs.Common.{◌≡◌, ℕ, suc, ◌+◌, ◌-◌, Bool, true, false, cond, eqb, List, [], ◌∷◌, ◌++◌, length, get_or, sym, refl, ap, ◌∙◌, ⊎_elim, arith}
-use Rattle.std.specs.List.{flat_map, AllByRecursion as All}
+use Rattle.std.specs.List.{flat_map, AllByRecursion}
 use Rattle.std.proofs.ByRecursion.{All-push, All-take}
 use Rattle.std.proofs.lemmas.List.{append-nil, append_assoc, length_push, get_or_push, take_at, take_more, take_all}
 use Rattle.std.proofs.lemmas.Bool.{cases_Bool, false≢true, eqb-true, eqb-false, eq-eqb, ne_eqb, cond-false, cond_both}
 use Rattle.lines.specs.Lines.{End, lf, cr_lf, none, Line, Cut, CutRight, CutOnce, end_bytes, line_bytes, but_last, ends_in_cr, without_cr, ended_line, last_line, lines_from, lines_of}
 
--- All but the last of a list.
+-- AllByRecursion but the last of a list.
 
 module _ {X : Type 0} where
   but_last_cons : (x y : X) (ys : List X) → but_last (x ∷ y ∷ ys) ≡ x ∷ but_last (y ∷ ys)
@@ -15,11 +15,11 @@ module _ {X : Type 0} where
   but_last_push : (xs : List X) (x : X) → but_last (xs ++ x ∷ []) ≡ xs
   but_last_push xs x = take_at xs (x ∷ []) _ (omega (arith, length_push xs x))
 
-  all_but_last : (P : X → Type 0) (x : X) (xs : List X) → P x → All P (but_last xs) → All P (but_last (x ∷ xs))
+  all_but_last : (P : X → Type 0) (x : X) (xs : List X) → P x → AllByRecursion P (but_last xs) → AllByRecursion P (but_last (x ∷ xs))
   all_but_last P x [] p h = tt
   all_but_last P x (y ∷ ys) p h = rw (but_last_cons x y ys) (p, h)
 
-  all_but_last_rest : (P : X → Type 0) (x : X) (xs : List X) → All P (but_last (x ∷ xs)) → All P (but_last xs)
+  all_but_last_rest : (P : X → Type 0) (x : X) (xs : List X) → AllByRecursion P (but_last (x ∷ xs)) → AllByRecursion P (but_last xs)
   all_but_last_rest P x [] h = tt
   all_but_last_rest P x (y ∷ ys) h = (rw (but_last_cons x y ys) at h).1
 
@@ -55,7 +55,7 @@ bytes_ended_line raw =
 -- The lines of an input are a right cut of it.
 
 abbrev Plain : List ℕ → Type 0
-Plain bytes = All (λ b. b ≡ 10 → ⊥) bytes
+Plain bytes = AllByRecursion (λ b. b ≡ 10 → ⊥) bytes
 
 cut_cons : (input : List ℕ) (line : Line) (lines : List Line) → Plain line.text → (line.end ≡ lf → ends_in_cr line.text ≡ false) → (line.end ≡ none → ⊥) → Cut input lines → Cut (line_bytes line ++ input) (line ∷ lines)
 cut_cons input line lines plain stripped ended cut = record {
@@ -122,7 +122,7 @@ last_line_some [] some = absurd (some refl)
 last_line_some (b ∷ bs) some = refl
 
 -- Its first line, once the text has come.
-lines_from_end : (text : List ℕ) (end : End) (lines : List Line) → (end ≡ lf → ends_in_cr text ≡ false) → (end ≡ none → text ≡ [] → ⊥) → All (λ line. line.end ≡ none → ⊥) (but_last (record { text = text; end = end } ∷ lines)) → lines_from text (end_bytes end ++ flat_map line_bytes lines) ≡ record { text = text; end = end } ∷ lines_of (flat_map line_bytes lines)
+lines_from_end : (text : List ℕ) (end : End) (lines : List Line) → (end ≡ lf → ends_in_cr text ≡ false) → (end ≡ none → text ≡ [] → ⊥) → AllByRecursion (λ line. line.end ≡ none → ⊥) (but_last (record { text = text; end = end } ∷ lines)) → lines_from text (end_bytes end ++ flat_map line_bytes lines) ≡ record { text = text; end = end } ∷ lines_of (flat_map line_bytes lines)
 lines_from_end text lf lines stripped filled ended = ap (λ line. line ∷ lines_of (flat_map line_bytes lines)) (ended_line_lf text (stripped refl))
 lines_from_end text cr_lf lines stripped filled ended = ap (λ line. line ∷ lines_of (flat_map line_bytes lines)) (ended_line_cr_lf text)
 lines_from_end text none [] stripped filled ended = last_line_some text (filled refl)

@@ -1,6 +1,6 @@
 -- What the lines of an input are. A byte is a number; 10 is LF and 13 is CR.
 use Rattle.std.specs.Prelude.{◌≡◌, ℕ, ◌-◌, Bool, false, cond, List, [], ◌∷◌, ◌++◌, length, take, ◌==◌, ◌≢◌, slice_index}
-use Rattle.std.specs.List.{flat_map, AllByRecursion as All}
+use Rattle.std.specs.List.{flat_map, AllByRecursion}
 
 -- How a line ends: with LF alone, with CR and LF, or, where the input ends, with nothing.
 pub data End : Type 0 where
@@ -27,7 +27,7 @@ line_bytes line = line.text ++ end_bytes line.end
 abbrev pub shown : Line → List ℕ
 shown line = take 81 line.text
 
--- All but the last of a list.
+-- AllByRecursion but the last of a list.
 abbrev pub but_last : {X : Type 0} → List X → List X
 but_last xs = take (length xs - 1) xs
 
@@ -62,13 +62,13 @@ pub record Cut (input : List ℕ) (lines : List Line) : Type 0 where
   -- The lines, one after another, are the input.
   pub whole : flat_map line_bytes lines ≡ input
   -- No text has an LF.
-  pub plain : All (λ line. All (λ b. b ≢ 10) line.text) lines
+  pub plain : AllByRecursion (λ line. AllByRecursion (λ b. b ≢ 10) line.text) lines
   -- A CR before the LF that ends a line belongs to the end.
-  pub stripped : All (λ line. line.end ≡ lf → ends_in_cr line.text ≡ false) lines
+  pub stripped : AllByRecursion (λ line. line.end ≡ lf → ends_in_cr line.text ≡ false) lines
   -- Each line but the last has an end.
-  pub ended : All (λ line. line.end ≢ none) (but_last lines)
+  pub ended : AllByRecursion (λ line. line.end ≢ none) (but_last lines)
   -- A line with no end has a text.
-  pub filled : All (λ line. line.end ≡ none → line.text ≢ []) lines
+  pub filled : AllByRecursion (λ line. line.end ≡ none → line.text ≢ []) lines
 
 -- The lines of an input are a right cut of it.
 abbrev pub CutRight : Type 0

@@ -1,6 +1,6 @@
 -- A run from the first byte reaches the end exactly on the well-shaped sentences.
 use Rattle.std.proofs.Common.{◌≡◌, ℕ, zero, suc, ◌-◌, true, cond, eqb, List, [], ◌∷◌, ◌++◌, length, Some, None, refl, ap, ◌∙◌, ⊎_elim, arith}
-use Rattle.std.specs.List.{AllByRecursion as All}
+use Rattle.std.specs.List.{AllByRecursion}
 use Rattle.std.proofs.lemmas.Bool.{eqb-true}
 use Rattle.sentences.specs.Bytes.{is_address_byte, is_field_byte, is_hex_digit}
 use Rattle.sentences.specs.Format.{CommaFirst, WellShaped}
@@ -11,11 +11,11 @@ use Rattle.sentences.proofs.Runs.{run, bind_some, run_step, run_append, address_
 
 -- two hexadecimal digits
 abbrev Digits : List ℕ → Type 0
-Digits digits = (length digits ≡ 2) × All (λ b. is_hex_digit b ≡ true) digits
+Digits digits = (length digits ≡ 2) × AllByRecursion (λ b. is_hex_digit b ≡ true) digits
 
 -- the star and the digits behind fields
 abbrev Tail : List ℕ → Type 0
-Tail xs = (fields : List ℕ) × (digits : List ℕ) × (xs ≡ fields ++ (42 ∷ digits)) × All (λ b. is_field_byte b ≡ true) fields × Digits digits
+Tail xs = (fields : List ℕ) × (digits : List ℕ) × (xs ≡ fields ++ (42 ∷ digits)) × AllByRecursion (λ b. is_field_byte b ≡ true) fields × Digits digits
 
 accept_digits : (xs : List ℕ) → run HighDigit xs ≡ Some End → Digits xs
 accept_digits [] led = let z : ◌≡◌ {A = ℕ} 0 1 = cc in absurd (omega arith)
@@ -63,7 +63,7 @@ accept_separator (b ∷ bs) led =
 -- so many bytes of the address, and the rest
 abbrev Front : ℕ → List ℕ → Type 0
 Front left xs =
-    (address : List ℕ) × (rest : List ℕ) × (xs ≡ address ++ rest) × (length address ≡ suc left) × All (λ b. is_address_byte b ≡ true) address × (run Separator rest ≡ Some End)
+    (address : List ℕ) × (rest : List ℕ) × (xs ≡ address ++ rest) × (length address ≡ suc left) × AllByRecursion (λ b. is_address_byte b ≡ true) address × (run Separator rest ≡ Some End)
 
 accept_address : (xs : List ℕ) (left : ℕ) → run (Address left) xs ≡ Some End → Front left xs
 accept_address [] left led = let z : ◌≡◌ {A = ℕ} 0 1 = cc in absurd (omega arith)
@@ -102,7 +102,7 @@ accepted_shape (b ∷ bs) led =
 
 -- and back: the parts lead to the end, one by one
 
-run_address : (address : List ℕ) (left : ℕ) → length address ≡ suc left → All (λ b. is_address_byte b ≡ true) address → run (Address left) address ≡ Some Separator
+run_address : (address : List ℕ) (left : ℕ) → length address ≡ suc left → AllByRecursion (λ b. is_address_byte b ≡ true) address → run (Address left) address ≡ Some Separator
 run_address [] left long all = absurd (omega arith)
 run_address (b ∷ []) zero long all =
     run_step (Address zero) Separator b [] (ap (λ t. cond t (Some Separator) None) all.0)
@@ -110,19 +110,19 @@ run_address (b ∷ c ∷ bs) zero long all = absurd (omega arith)
 run_address (b ∷ bs) (suc left) long all =
     run_step (Address (suc left)) (Address left) b bs (ap (λ t. cond t (Some (cond (eqb (suc left) 0) Separator (Address (suc left - 1)))) None) all.0 ∙ ap Some (address_more left)) ∙ run_address bs left (omega arith) all.1
 
-run_fields : (fields : List ℕ) → All (λ b. is_field_byte b ≡ true) fields → run Fields fields ≡ Some Fields
+run_fields : (fields : List ℕ) → AllByRecursion (λ b. is_field_byte b ≡ true) fields → run Fields fields ≡ Some Fields
 run_fields [] all = refl
 run_fields (b ∷ bs) all =
     run_step Fields Fields b bs (ap (λ t. cond t (Some Fields) (cond (eqb b 42) (Some HighDigit) None)) all.0) ∙ run_fields bs all.1
 
-run_digits : (digits : List ℕ) → length digits ≡ 2 → All (λ b. is_hex_digit b ≡ true) digits → run HighDigit digits ≡ Some End
+run_digits : (digits : List ℕ) → length digits ≡ 2 → AllByRecursion (λ b. is_hex_digit b ≡ true) digits → run HighDigit digits ≡ Some End
 run_digits [] two all = absurd (omega arith)
 run_digits (h ∷ []) two all = absurd (omega arith)
 run_digits (h ∷ l ∷ []) two all =
     run_step HighDigit LowDigit h (l ∷ []) (ap (λ t. cond t (Some LowDigit) None) all.0) ∙ run_step LowDigit End l [] (ap (λ t. cond t (Some End) None) all.1.0)
 run_digits (h ∷ l ∷ c ∷ cs) two all = absurd (omega arith)
 
-run_tail : (fields digits : List ℕ) → CommaFirst fields → All (λ b. is_field_byte b ≡ true) fields → length digits ≡ 2 → All (λ b. is_hex_digit b ≡ true) digits → run Separator (fields ++ (42 ∷ digits)) ≡ Some End
+run_tail : (fields digits : List ℕ) → CommaFirst fields → AllByRecursion (λ b. is_field_byte b ≡ true) fields → length digits ≡ 2 → AllByRecursion (λ b. is_hex_digit b ≡ true) digits → run Separator (fields ++ (42 ∷ digits)) ≡ Some End
 run_tail [] digits first all two hex = run_digits digits two hex
 run_tail (b ∷ bs) digits first all two hex =
     run_step Separator Fields b (bs ++ (42 ∷ digits)) (ap (after Separator) first) ∙ run_append bs (42 ∷ digits) Fields Fields (run_fields bs all.1) ∙ run_digits digits two hex

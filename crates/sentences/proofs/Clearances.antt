@@ -1,6 +1,6 @@
 -- Fields give a clearance exactly if they are a depth, an offset and at most one field more.
 use Rattle.std.proofs.Common.{◌≡◌, ℕ, ◌+◌, Bool, true, false, cond, eqb, leb, List, [], ◌∷◌, ◌++◌, length, take, drop, ℤ, pos, ◌-ℤ◌, Some, None, Ok, Option, Result, sym, refl, ap, ◌∙◌, inl, inr, append-nil, arith}
-use Rattle.std.specs.List.{prefix_len, AllByRecursion as All}
+use Rattle.std.specs.List.{prefix_len, AllByRecursion}
 use Rattle.std.proofs.ByRecursion.{All-weaker, All-append}
 use Rattle.std.proofs.lemmas.List.{take_at, drop_at, take-append-drop, nil_from_length}
 use Rattle.std.proofs.lemmas.Bool.{eqb-true, eqb-false, ne_eqb, not-true, not-false, not_from_false, and_parts, leb-true}
@@ -17,7 +17,7 @@ abbrev in_field : ℕ → Bool
 in_field b = is_of Field b
 
 abbrev InField : List ℕ → Type 0
-InField xs = All (λ b. in_field b ≡ true) xs
+InField xs = AllByRecursion (λ b. in_field b ≡ true) xs
 
 -- a field, and what follows it, cut off a list that begins with a comma
 
@@ -52,7 +52,7 @@ digit_in_field b d =
     let low = and_parts (leb 48 b) (leb b 57) d in
     not_from_false (eqb b 44) (ne_eqb b 44 (λ e. omega (arith, leb-true 48 b low.0)))
 
-pointed_in_field : (fraction : List ℕ) → All (λ b. is_digit b ≡ true) fraction → InField (pointed fraction)
+pointed_in_field : (fraction : List ℕ) → AllByRecursion (λ b. is_digit b ≡ true) fraction → InField (pointed fraction)
 pointed_in_field [] all = tt
 pointed_in_field (d ∷ ds) all = (refl, All-weaker _ _ digit_in_field (d ∷ ds) all)
 

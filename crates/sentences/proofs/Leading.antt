@@ -1,19 +1,19 @@
 -- The longest front of a list that passes a test.
 use Rattle.std.proofs.Common.{◌≡◌, ℕ, suc, ◌+◌, Bool, true, false, cond, List, [], ◌∷◌, ◌++◌, length, take, drop, refl, ap, ◌∙◌, one-add}
-use Rattle.std.specs.List.{prefix_len, AllByRecursion as All}
+use Rattle.std.specs.List.{prefix_len, AllByRecursion}
 
 module _ (p : ℕ → Bool) where
   -- a front that passes, and what begins with no more of it
-  pub leading_front : (xs ys : List ℕ) → All (λ b. p b ≡ true) xs → prefix_len p ys ≡ 0 → prefix_len p (xs ++ ys) ≡ length xs
+  pub leading_front : (xs ys : List ℕ) → AllByRecursion (λ b. p b ≡ true) xs → prefix_len p ys ≡ 0 → prefix_len p (xs ++ ys) ≡ length xs
   leading_front [] ys all none = none
   leading_front (x ∷ xs) ys all none =
       ap (λ t. cond t (1 + prefix_len p (xs ++ ys)) 0) all.0 ∙ one-add (prefix_len p (xs ++ ys)) ∙ ap suc (leading_front xs ys all.1 none)
 
-  pub leading_passes : (xs : List ℕ) → All (λ b. p b ≡ true) (take (prefix_len p xs) xs)
+  pub leading_passes : (xs : List ℕ) → AllByRecursion (λ b. p b ≡ true) (take (prefix_len p xs) xs)
   leading_passes [] = tt
   leading_passes (x ∷ xs) = by (p x) refl (leading_passes xs)
     where
-      by : (t : Bool) → p x ≡ t → All (λ b. p b ≡ true) (take (prefix_len p xs) xs) → All (λ b. p b ≡ true) (take (cond t (1 + prefix_len p xs) 0) (x ∷ xs))
+      by : (t : Bool) → p x ≡ t → AllByRecursion (λ b. p b ≡ true) (take (prefix_len p xs) xs) → AllByRecursion (λ b. p b ≡ true) (take (cond t (1 + prefix_len p xs) 0) (x ∷ xs))
       by false fails again = tt
       by true passes again = rw one-add (passes, again)
 

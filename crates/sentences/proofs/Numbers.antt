@@ -1,7 +1,7 @@
 -- A number in metres is read exactly if it is one.
 use Rattle.std.proofs.Common.{◌≡◌, ℕ, ◌+◌, ◌-◌, ◌*◌, ◌^◌, ◌≤◌, true, cond, ◌&&◌, eqb, List, [], ◌∷◌, ◌++◌, length, take, drop, Some, None, Option, sym, refl, ap, ◌∙◌, arith}
 use Rattle.std.specs.Option.{option_map}
-use Rattle.std.specs.List.{prefix_len, AllByRecursion as All}
+use Rattle.std.specs.List.{prefix_len, AllByRecursion}
 use Rattle.std.proofs.lemmas.List.{take_at, drop_at, take-append-drop}
 use Rattle.std.proofs.lemmas.Bool.{and_parts, and_from, eqb-true}
 use Rattle.sentences.specs.Bytes.{is_digit}
@@ -29,7 +29,7 @@ right_few (a ∷ b ∷ c ∷ d ∷ f ∷ more) one four = absurd (omega arith)
 -- what hundredths are made of
 abbrev Fraction : List ℕ → ℕ → Type 0
 Fraction text n =
-    (fraction : List ℕ) × (text ≡ pointed fraction) × All (λ b. is_digit b ≡ true) fraction × (length fraction ≤ 2) × (n ≡ decimal_of fraction * 10 ^ (2 - length fraction))
+    (fraction : List ℕ) × (text ≡ pointed fraction) × AllByRecursion (λ b. is_digit b ≡ true) fraction × (length fraction ≤ 2) × (n ≡ decimal_of fraction * 10 ^ (2 - length fraction))
 
 hundredths_right : (text : List ℕ) (n : ℕ) → hundredths_of text ≡ Some n → Fraction text n
 hundredths_right [] n e = let is = same_some e in ([], refl, tt, omega arith, omega arith)
@@ -45,7 +45,7 @@ hundredths_right (p ∷ a ∷ b ∷ []) n e =
     (a ∷ b ∷ [], ap (λ x. x ∷ a ∷ b ∷ []) (eqb-true p 46 t.0), (u.0, (u.1, tt)), omega arith, omega (arith, h.1))
 hundredths_right (p ∷ a ∷ b ∷ c ∷ more) n e = none_some e
 
-right_hundredths : (fraction : List ℕ) → All (λ b. is_digit b ≡ true) fraction → length fraction ≤ 2 → hundredths_of (pointed fraction) ≡ Some (decimal_of fraction * 10 ^ (2 - length fraction))
+right_hundredths : (fraction : List ℕ) → AllByRecursion (λ b. is_digit b ≡ true) fraction → length fraction ≤ 2 → hundredths_of (pointed fraction) ≡ Some (decimal_of fraction * 10 ^ (2 - length fraction))
 right_hundredths [] all two = refl
 right_hundredths (a ∷ []) all two =
     ap (λ t. cond t (Some (10 * (a - 48))) None) all.0 ∙ ap Some (omega arith)

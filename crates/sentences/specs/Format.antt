@@ -1,7 +1,7 @@
 -- What a sentence is, by its parts: the parts joined are the bytes.
 -- Of the bytes, 36 is `$`, 42 `*`, 44 the comma, 45 the minus, 46 the point; 68, 80 and 84 are the letters of DPT.
 use Rattle.std.specs.Prelude.{◌≡◌, ℕ, ◌+◌, ◌-◌, ◌*◌, ◌^◌, ◌≤◌, true, ◌⊎◌, List, [], ◌∷◌, ◌++◌, length, take, ℤ, pos, ◌-ℤ◌, fold, ◌≢◌}
-use Rattle.std.specs.List.{AllByRecursion as All}
+use Rattle.std.specs.List.{AllByRecursion}
 use Rattle.sentences.specs.Bytes.{is_digit, is_address_byte, is_field_byte, is_hex_digit, hex_text, sum_of}
 
 -- each follows from the other
@@ -17,11 +17,11 @@ CommaFirst (b ∷ bs) = b ≡ 44
 pub record Shaped (bytes address fields digits : List ℕ) : Type 0 where
   pub joined : bytes ≡ 36 ∷ (address ++ (fields ++ (42 ∷ digits)))
   pub address_five : length address ≡ 5
-  pub address_bytes : All (λ b. is_address_byte b ≡ true) address
+  pub address_bytes : AllByRecursion (λ b. is_address_byte b ≡ true) address
   pub fields_start : CommaFirst fields
-  pub fields_bytes : All (λ b. is_field_byte b ≡ true) fields
+  pub fields_bytes : AllByRecursion (λ b. is_field_byte b ≡ true) fields
   pub digits_two : length digits ≡ 2
-  pub digits_hex : All (λ b. is_hex_digit b ≡ true) digits
+  pub digits_hex : AllByRecursion (λ b. is_hex_digit b ≡ true) digits
 
 -- right shape, whatever the parts
 abbrev pub WellShaped : List ℕ → Type 0
@@ -64,16 +64,16 @@ pub record Metres (text : List ℕ) (centimetres : ℕ) : Type 0 where
   pub whole : List ℕ
   pub fraction : List ℕ
   pub joined : text ≡ whole ++ pointed fraction
-  pub whole_digits : All (λ b. is_digit b ≡ true) whole
+  pub whole_digits : AllByRecursion (λ b. is_digit b ≡ true) whole
   pub whole_one : 1 ≤ length whole
   pub whole_four : length whole ≤ 4
-  pub fraction_digits : All (λ b. is_digit b ≡ true) fraction
+  pub fraction_digits : AllByRecursion (λ b. is_digit b ≡ true) fraction
   pub fraction_two : length fraction ≤ 2
   pub value : centimetres ≡ decimal_of whole * 100 + decimal_of fraction * 10 ^ (2 - length fraction)
 
 -- at most one more field, whatever it holds
 abbrev pub OneField : List ℕ → Type 0
-OneField rest = (rest ≡ []) ⊎ ((text : List ℕ) × (rest ≡ 44 ∷ text) × All (λ b. b ≢ 44) text)
+OneField rest = (rest ≡ []) ⊎ ((text : List ℕ) × (rest ≡ 44 ∷ text) × AllByRecursion (λ b. b ≢ 44) text)
 
 -- a depth sentence: DPT after the sounder, then the depth, the offset of the keel with its minus, and
 -- perhaps a third field; the clearance is the depth less the offset

@@ -1,6 +1,6 @@
 -- What rising, entering and falling do to the rows of a tally. Assumes nothing; the last lemmas, on the count of a key, take alike to be symmetric and transitive.
 use Rattle.std.proofs.Common.{◌≡◌, ℕ, ◌+◌, ◌-◌, ◌<◌, ◌≤◌, Bool, true, false, cond, ltb, List, [], ◌∷◌, ◌++◌, map, length, sum_by, refl, arith}
-use Rattle.std.specs.List.{AllByRecursion as All}
+use Rattle.std.specs.List.{AllByRecursion}
 use Rattle.std.proofs.lemmas.List.{length_push}
 use Rattle.std.proofs.lemmas.List.Sums.{sum_by-cons}
 use Rattle.std.proofs.ByRecursion.{All-push, All-weaker, All-map, all_kept_by, kept_by_passes}
@@ -23,7 +23,7 @@ module _ {K : Type 0} where
   length_fallen [] = omega arith
   length_fallen (row ∷ rows) = let again = length_fallen rows in grind (arith, nat_tests)
 
-  pub total_fallen : (rows : List (Row K)) → All (λ row. 1 ≤ row.count) rows → total (fallen rows) + length rows ≡ total rows
+  pub total_fallen : (rows : List (Row K)) → AllByRecursion (λ row. 1 ≤ row.count) rows → total (fallen rows) + length rows ≡ total rows
   total_fallen [] counted = refl
   total_fallen (row ∷ rows) counted =
       let again = total_fallen rows counted.1 in
@@ -31,10 +31,10 @@ module _ {K : Type 0} where
       let after = total_cons (lowered row) (fallen rows) in
       grind (arith, nat_tests)
 
-  pub all_fallen : (P : Row K → Type 0) (rows : List (Row K)) → All (λ row. P (lowered row)) rows → All P (fallen rows)
+  pub all_fallen : (P : Row K → Type 0) (rows : List (Row K)) → AllByRecursion (λ row. P (lowered row)) rows → AllByRecursion P (fallen rows)
   all_fallen P rows h = all_kept_by _ P (map lowered rows) (All-map P lowered rows h)
 
-  pub counted_fallen : (rows : List (Row K)) → All (λ row. 1 ≤ row.count) (fallen rows)
+  pub counted_fallen : (rows : List (Row K)) → AllByRecursion (λ row. 1 ≤ row.count) (fallen rows)
   counted_fallen rows = All-weaker _ _ (λ row. ltb-true 0 row.count) (fallen rows) (kept_by_passes _ (map lowered rows))
 
 module _ {K : Type 0} (alike : K → K → Bool) where
@@ -52,10 +52,10 @@ module _ {K : Type 0} (alike : K → K → Bool) where
       let later = total_cons row (risen alike rows x) in
       grind arith
 
-  pub all_risen : (P : Row K → Type 0) (rows : List (Row K)) (x : K) → ((row : Row K) → P row → P (raised row)) → All P rows → All P (risen alike rows x)
+  pub all_risen : (P : Row K → Type 0) (rows : List (Row K)) (x : K) → ((row : Row K) → P row → P (raised row)) → AllByRecursion P rows → AllByRecursion P (risen alike rows x)
   all_risen P [] x keeps h = tt
   all_risen P (row ∷ rows) x keeps h =
-      cond_both (alike row.key x) _ _ (All P)
+      cond_both (alike row.key x) _ _ (AllByRecursion P)
       (λ _. (keeps row h.0, h.1))
       (λ _. (h.0, all_risen P rows x keeps h.1))
 
@@ -120,7 +120,7 @@ module _ {K : Type 0} (alike : K → K → Bool) where
     count_push (row ∷ rows) x k new = let again = count_push rows x k in grind arith
 
     -- rows that are unlike a key are unlike every key alike to it
-    count_unlike : (rows : List (Row K)) (x k : K) → All (λ row. alike x row.key ≡ false) rows → alike x k ≡ true → count_in alike rows k ≡ 0
+    count_unlike : (rows : List (Row K)) (x k : K) → AllByRecursion (λ row. alike x row.key ≡ false) rows → alike x k ≡ true → count_in alike rows k ≡ 0
     count_unlike [] x k unlike e = refl
     count_unlike (row ∷ rows) x k unlike e = let again = count_unlike rows x k unlike.1 e in grind arith
 

@@ -2,7 +2,7 @@
 use Rattle.std.proofs.Common.{◌≡◌, ℕ, zero, suc, ◌+◌, ◌<◌, ◌≤◌, min, Bool, true, false, cond, List, [], ◌∷◌, length, get_or, take, drop, set, IfSome, Some, None, Option, sym, refl, ap, ◌∙◌, one-add, arith, length-take}
 use Rattle.std.proofs.lemmas.List.{at_drop_more, at_drop_all, get_or-take}
 use Rattle.std.proofs.lemmas.Bool.{both_ways}
-use Rattle.std.specs.List.{HoldsAt, AllByRecursion as All}
+use Rattle.std.specs.List.{HoldsAt, AllByRecursion}
 use Rattle.tally.specs.declared.rows.Row.{Row}
 use Rattle.tally.specs.Laws.{FirstAlike}
 use Rattle.tally.specs.Steps.{known, before, place, count_in, entered, risen, raised}
@@ -73,12 +73,12 @@ module _ {K : Type 0} (alike : K → K → Bool) (k : K) where
       ways false e = refl
 
   -- what a search found is the first alike row
-  none_alike : (rows : List (Row K)) → known alike rows k ≡ false → All (λ row. alike row.key k ≡ false) rows
+  none_alike : (rows : List (Row K)) → known alike rows k ≡ false → AllByRecursion (λ row. alike row.key k ≡ false) rows
   none_alike [] h = tt
   none_alike (row ∷ rows) h = ways (alike row.key k) refl (none_alike rows) h
     where
-      ways : (b : Bool) → alike row.key k ≡ b → (known alike rows k ≡ false → All (λ other. alike other.key k ≡ false) rows)
-          → cond b true (known alike rows k) ≡ false → All (λ other. alike other.key k ≡ false) (row ∷ rows)
+      ways : (b : Bool) → alike row.key k ≡ b → (known alike rows k ≡ false → AllByRecursion (λ other. alike other.key k ≡ false) rows)
+          → cond b true (known alike rows k) ≡ false → AllByRecursion (λ other. alike other.key k ≡ false) (row ∷ rows)
       ways true e again h = absurd (both_ways true h refl)
       ways false e again h = (e, again h)
 
