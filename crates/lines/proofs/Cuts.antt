@@ -6,7 +6,7 @@ use Rattle.std.proofs.lemmas.List.{append-nil, append_assoc, length_push, get_or
 use Rattle.std.proofs.lemmas.Bool.{cases_Bool, false≢true, eqb-true, eqb-false, eq-eqb, ne_eqb, cond-false, cond_both}
 use Rattle.lines.specs.Lines.{End, lf, cr_lf, none, Line, Cut, CutRight, CutOnce, end_bytes, line_bytes, but_last, ends_in_cr, without_cr, ended_line, last_line, lines_from, lines_of}
 
--- AllByRecursion but the last of a list.
+-- All but the last of a list.
 
 module _ {X : Type 0} where
   but_last_cons : (x y : X) (ys : List X) → but_last (x ∷ y ∷ ys) ≡ x ∷ but_last (y ∷ ys)

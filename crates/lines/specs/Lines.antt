@@ -27,7 +27,7 @@ line_bytes line = line.text ++ end_bytes line.end
 abbrev pub shown : Line → List ℕ
 shown line = take 81 line.text
 
--- AllByRecursion but the last of a list.
+-- All but the last of a list.
 abbrev pub but_last : {X : Type 0} → List X → List X
 but_last xs = take (length xs - 1) xs
 
