@@ -1,5 +1,5 @@
 -- The limits of the ferry classes, and the band of a clearance, in whole centimetres. Assumes nothing.
-use Rattle.std.specs.Prelude.{ℕ, ◌+◌, ◌-◌, cond, List, [], ◌∷◌, ℤ, pos, int_le, slice_index_or}
+use Rattle.std.specs.Prelude.{ℕ, ◌-◌, List, [], ◌∷◌, ℤ, pos, int_le, count_by, slice_index_or}
 
 -- the least clearance that each class needs, class 1 first
 abbrev pub limits : List ℤ
@@ -7,8 +7,7 @@ limits = pos 46 ∷ pos 55 ∷ pos 61 ∷ pos 70 ∷ pos 84 ∷ pos 98 ∷ []
 
 -- how many of the limits `ls` a clearance reaches: those that are at most the clearance
 abbrev pub reached : ℤ → List ℤ → ℕ
-reached clearance [] = 0
-reached clearance (l ∷ ls) = cond (int_le l clearance) 1 0 + reached clearance ls
+reached clearance ls = count_by (λ l. int_le l clearance) ls
 
 -- the band of a clearance: how many of the six limits it reaches
 abbrev pub band : ℤ → ℕ

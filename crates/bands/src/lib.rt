@@ -1,23 +1,36 @@
 //! Clearance bands: how many of the six ferry classes a clearance under the keel suffices for.
 #![tactic(auto)]
 
-ghost use Rattle.std.specs.Prelude.{◌≡◌, ◌≤◌};
+ghost use Rattle.std.specs.Prelude.{◌≡◌, ℕ, ◌≤◌};
+
+use std::marker::Model;
 
 mod clearance;
 
 pub use clearance::{LIMITS, band_of};
 
-/// How many of the six class limits a clearance reaches: 0 to 6. It suffices for the classes 1 to `value`.
+/// How many of the six class limits a clearance reaches: 0 to 6. It suffices for the classes 1 to that number.
+///
+/// In contracts a band is its number.
 #[derive(Clone, Copy, PartialEq, Eq, Debug)]
 pub struct Band {
     value: u8,
-    ghost in_range: { value ≤ 6 },
+}
+
+impl Model for Band {
+    ghost Value = { ℕ };
+
+    ghost view = { λ band. band.value };
+
+    ghost invariant = { λ band. band.value ≤ 6 };
+
+    ghost inverse = { λ number. record { value = number } };
 }
 
 impl Band {
     /// The band as a number, 0 to 6.
     pub fn value(&self) -> u8
-        ensures value { result ≡ self.now.value }
+        ensures value { result ≡ self.now }
         ensures bound { result ≤ 6 }
     {
         self.value

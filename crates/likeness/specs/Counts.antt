@@ -13,7 +13,7 @@ Stands alike window k = 1 ≤ true_count alike window k
 
 -- a key is the sounder's, and its band is below the class: a reading that was too shallow for that class
 abbrev pub short_for : List ℕ → ℕ → SoundingKey → Bool
-short_for sounder class key = same_sounder key.sounder sounder && nat_lt key.band.value class
+short_for sounder class key = same_sounder key.sounder sounder && nat_lt key.band class
 
 -- how many keys of the window are truly short
 abbrev pub truly_short : List SoundingKey → List ℕ → ℕ → ℕ

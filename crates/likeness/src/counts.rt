@@ -1,6 +1,6 @@
 //! Plain counts over a window that is there whole: what every answer is measured against.
 
-ghost use Rattle.std.specs.Prelude.{◌≡◌, ◌≤◌, length, Decides};
+ghost use Rattle.std.specs.Prelude.{◌≡◌, ◌≤◌, length, ◌↔◌, IsTrue};
 ghost use Rattle.likeness.specs.Counts.{Stands, short_for, true_count, truly_short};
 
 use crate::kind::Likeness;
@@ -11,25 +11,14 @@ pub fn true_count<K: Likeness>(window: &[K], key: &K) -> usize
     ensures value { result ≡ true_count K.alike window.now key.now }
     ensures bound { result ≤ length window.now }
 {
-    let mut total = 0;
-    for other in window {
-        total += other.is_alike(key) as usize;
-    }
-    total
+    window.iter().filter(|other| other.is_alike(key)).count()
 }
 
 /// Whether some key of the window is alike to `key`.
 pub fn stands_in<K: Likeness>(window: &[K], key: &K) -> bool
-    ensures { Decides result (Stands K.alike window.now key.now) }
+    ensures { IsTrue result ↔ Stands K.alike window.now key.now }
 {
-    true_count(window, key) >= 1
-}
-
-// Whether a reading is the sounder's and too shallow for the class.
-fn is_short(key: &SoundingKey, sounder: [u8; 2], class: u8) -> bool
-    ensures { result ≡ short_for sounder class key.now }
-{
-    key.is_of(sounder) && key.band.value() < class
+    window.iter().any(|other| other.is_alike(key))
 }
 
 /// The sounder's readings in the window that were too shallow for `class`.
@@ -37,9 +26,8 @@ pub fn truly_short(window: &[SoundingKey], sounder: [u8; 2], class: u8) -> usize
     ensures value { result ≡ truly_short window.now sounder class }
     ensures bound { result ≤ length window.now }
 {
-    let mut count = 0;
-    for key in window {
-        count += is_short(key, sounder, class) as usize;
-    }
-    count
+    window
+        .iter()
+        .filter(|key| key.is_of(sounder) && key.band.value() < class)
+        .count()
 }

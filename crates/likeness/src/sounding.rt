@@ -3,7 +3,7 @@
 ghost use Rattle.std.specs.Prelude.{◌≡◌};
 ghost use Rattle.likeness.specs.Agree.{same_reading, same_sounder};
 ghost use Rattle.likeness.specs.Laws;
-ghost use Rattle.likeness.specs.Laws.{sounding_part, sounding_decides};
+ghost use Rattle.likeness.specs.Laws.{by_reading};
 
 use crate::kind::Likeness;
 use bands::Band;
@@ -20,23 +20,21 @@ impl SoundingKey {
     pub fn is_of(&self, sounder: [u8; 2]) -> bool
         ensures { result ≡ same_sounder self.now.sounder sounder }
     {
-        let [own_first, own_second] = self.sounder;
-        let [first, second] = sounder;
-        own_first == first && own_second == second
+        self.sounder == sounder
     }
 }
 
 /// Sounding keys count as one when they are readings of one sounder in one band.
 impl Likeness for SoundingKey {
-    ghost alike = { λ x y. same_reading x.sounder x.band.value y.sounder y.band.value };
+    ghost alike = { λ x y. same_reading x.sounder x.band y.sounder y.band };
 
-    ghost reflexive = { Laws.reflexive sounding_part _ sounding_decides };
+    ghost reflexive = { Laws.reflexive by_reading };
 
-    ghost symmetric = { Laws.symmetric sounding_part _ sounding_decides };
+    ghost symmetric = { Laws.symmetric by_reading };
 
-    ghost transitive = { Laws.transitive sounding_part _ sounding_decides };
+    ghost transitive = { Laws.transitive by_reading };
 
     fn is_alike(&self, other: &SoundingKey) -> bool {
-        self.is_of(other.sounder) && self.band.value() == other.band.value()
+        self.is_of(other.sounder) && self.band == other.band
     }
 }
