@@ -19,11 +19,11 @@ counted_more p xs i x b n within read test inv =
 
 -- a key stands in the window exactly where one of the window's keys is alike to it
 pub stands_any : {K : Type 0} (alike : K → K → Bool) (window : List K) (k : K) (b : Bool) → b ≡ list_any (λ x. alike x k) window → IsTrue b ↔ Stands alike window k
-stands_any alike [] k b e = grind (arith, e)
+stands_any alike [] k b e = grind arith
 stands_any alike (x ∷ window) k b e =
     let rest = stands_any alike window k (list_any (λ y. alike y k) window) refl in
     let first = sum_by-cons (λ y. cond (alike y k) 1 0) x window in
-    grind (arith, e, rest, first)
+    grind arith
 
 -- alike keys have one true count
 pub true_count_same : {K : Type 0} (alike : K → K → Bool) → ((x y : K) → alike x y ≡ true → alike y x ≡ true)

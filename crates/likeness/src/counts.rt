@@ -1,6 +1,7 @@
 //! Plain counts over a window that is there whole: what every answer is measured against.
 
 ghost use Rattle.std.specs.Prelude.{◌≡◌, ◌≤◌, length, ◌↔◌, IsTrue};
+ghost use Rattle.std.specs.List.{list_any};
 ghost use Rattle.likeness.specs.Counts.{Stands, short_for, true_count, truly_short};
 
 use crate::kind::Likeness;
@@ -14,11 +15,18 @@ pub fn true_count<K: Likeness>(window: &[K], key: &K) -> usize
     window.iter().filter(|other| other.is_alike(key)).count()
 }
 
+// Whether a test of each key in turn finds an alike one. Apart from `stands_in`, since one lemma leads from that to the count.
+fn any_alike<K: Likeness>(window: &[K], key: &K) -> bool
+    ensures { result ≡ list_any (λ x. K.alike x key.now) window.now }
+{
+    window.iter().any(|other| other.is_alike(key))
+}
+
 /// Whether some key of the window is alike to `key`.
 pub fn stands_in<K: Likeness>(window: &[K], key: &K) -> bool
     ensures { IsTrue result ↔ Stands K.alike window.now key.now }
 {
-    window.iter().any(|other| other.is_alike(key))
+    any_alike(window, key)
 }
 
 /// The sounder's readings in the window that were too shallow for `class`.
