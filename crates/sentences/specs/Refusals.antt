@@ -1,5 +1,5 @@
 -- The number and the column of each refusal, for code and promises alike.
-use Rattle.std.specs.Prelude.{ℕ}
+use Rattle.std.specs.Prelude.{ℕ, List, ◌++◌, codes, decimal}
 use Rattle.sentences.specs.declared.error.SentenceError.{SentenceError}
 use Rattle.sentences.specs.declared.error.SentenceError.TheVariants.{Shape, Checksum, NotDepth, NoClearance}
 
@@ -15,3 +15,7 @@ column_of (Shape column) = column
 column_of (Checksum column) = column
 column_of NotDepth = 2
 column_of (NoClearance column) = column
+
+-- a refusal in words: `refused NUMBER at COLUMN`
+abbrev pub refusal_text : SentenceError → List ℕ
+refusal_text error = codes "refused " ++ (decimal (number_of error) ++ (codes " at " ++ decimal (column_of error)))

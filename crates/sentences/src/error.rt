@@ -1,7 +1,10 @@
 //! Why bytes are refused.
 
-ghost use Rattle.std.specs.Prelude.{◌≡◌};
-ghost use Rattle.sentences.specs.Refusals.{column_of, number_of};
+ghost use Rattle.std.specs.Prelude.{◌≡◌, Some};
+ghost use Rattle.sentences.specs.Refusals.{column_of, number_of, refusal_text};
+
+use std::error::Error;
+use std::fmt;
 
 /// Why bytes are refused, with the column that shows it. Columns count from 1.
 #[derive(Clone, Copy, PartialEq, Eq, Debug)]
@@ -18,6 +21,7 @@ pub enum SentenceError {
 
 impl SentenceError {
     /// The refusal's number, 12 to 15.
+    // A variant that carries its column has no discriminant, so the numbers stand in a match.
     pub fn number(&self) -> u8
         ensures { result ≡ number_of self.now }
     {
@@ -41,3 +45,15 @@ impl SentenceError {
         }
     }
 }
+
+impl fmt::Display for SentenceError {
+    ghost output = { λ error. Some (refusal_text error) };
+
+    fn fmt<W: fmt::Write>(&self, f: &mut fmt::Formatter<W>) -> fmt::Result {
+        let number = self.number();
+        let column = self.column();
+        write!(f, "refused {number} at {column}")
+    }
+}
+
+impl Error for SentenceError {}

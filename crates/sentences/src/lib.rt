@@ -73,6 +73,13 @@ mod tests {
     }
 
     #[test]
+    fn refusals_in_words(rt: HostRuntime) -> Result<(), Fail> {
+        let text = format!(in rt.alloc(); "{}", SentenceError::Checksum { column: 17 })?;
+        assert_eq!(rt; text.as_str(), "refused 13 at 17");
+        Ok(())
+    }
+
+    #[test]
     fn no_clearances(rt: HostRuntime) -> Result<(), Fail> {
         refuses(&rt, b"$SDDPT*57", 15, 7)?;
         refuses(&rt, b"$SDDPT,*7B", 15, 8)?;
