@@ -17,6 +17,10 @@ abbrev pub sum_right : List ℕ → Bool
 sum_right bytes =
     (slice_index bytes (length bytes - 2) == hex_digit (sentence_sum bytes / 16)) && slice_index bytes (length bytes - 1) == hex_digit (sentence_sum bytes % 16)
 
+-- refuses a sum that the last two bytes do not write, at the first of them
+abbrev pub sum_checked : List ℕ → Result (Unit {0}) SentenceError
+sum_checked bytes = cond (sum_right bytes) (Ok tt) (Err (Checksum (length bytes - 1)))
+
 -- the five bytes after the `$`
 abbrev pub address_bytes : List ℕ → List ℕ
 address_bytes bytes = slice_index bytes 1 ∷ slice_index bytes 2 ∷ slice_index bytes 3 ∷ slice_index bytes 4 ∷ slice_index bytes 5 ∷ []

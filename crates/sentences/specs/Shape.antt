@@ -1,6 +1,8 @@
 -- Where a sentence's shape goes wrong, byte by byte. Of the bytes, 36 is `$`, 42 `*`, 44 the comma.
-use Rattle.std.specs.Prelude.{ℕ, ◌+◌, ◌-◌, cond, List, [], ◌∷◌, Some, None, Option, ◌==◌, nat_lt}
+use Rattle.std.specs.Prelude.{ℕ, ◌+◌, ◌-◌, cond, List, [], ◌∷◌, Some, None, Option, Ok, Err, Result, ◌==◌, nat_lt}
 use Rattle.sentences.specs.Bytes.{is_address_byte, is_field_byte, is_hex_digit}
+use Rattle.sentences.specs.declared.error.SentenceError.{SentenceError}
+use Rattle.sentences.specs.declared.error.SentenceError.TheVariants.{Shape}
 use Rattle.sentences.specs.declared.shape.Expect.{Expect}
 use Rattle.sentences.specs.declared.shape.Expect.TheVariants.{Dollar, Address, Separator, Fields, HighDigit, LowDigit, End}
 
@@ -33,3 +35,8 @@ fault_from e column (b ∷ bs) =
 -- the first wrong column of a sentence
 abbrev pub shape_fault : List ℕ → Option ℕ
 shape_fault bytes = fault_from Dollar 1 bytes
+
+-- what is right, unless a column is wrong
+abbrev pub unless_fault : {A : Type 0} → Option ℕ → A → Result A SentenceError
+unless_fault None right = Ok right
+unless_fault (Some column) right = Err (Shape column)

@@ -1,13 +1,13 @@
 //! From bytes to an address or a reading.
 
-ghost use Rattle.std.specs.Prelude.{◌≡◌, ℕ, ◌≤◌, true, length, take, is_ok, Ok, Err};
+ghost use Rattle.std.specs.Prelude.{◌≡◌, ℕ, take, Ok, Err};
+ghost use Rattle.std.specs.Option.{ok_or};
 ghost use Rattle.sentences.specs.Format.{Exactly, HasAddress, FirstWrong, DepthSentence};
-ghost use Rattle.sentences.specs.Reader.{address_of, reading_of, sounder_of, sum_right};
+ghost use Rattle.sentences.specs.Reader.{address_bytes, address_of, depth_at, fields_of, reading_of, sounder_of};
 
 use crate::error::SentenceError;
 use crate::fields::clearance;
-use crate::shape::shape_fault;
-use crate::sums::{checksum, hex_digits};
+use crate::shape::Shaped;
 
 /// The five bytes after the `$`: who speaks, in two, and the kind of sentence, in three.
 #[derive(Clone, Copy, PartialEq, Eq, Debug)]
@@ -23,54 +23,43 @@ pub struct Reading {
     pub clearance: i32,
 }
 
-// Whether the last two bytes write the checksum of what stands between `$` and `*`.
-fn has_right_sum(bytes: &[u8]) -> bool
-    requires { 9 ≤ length bytes.now }
-    ensures { result ≡ sum_right bytes.now }
+// The sounder that an address names, where it is a depth sentence's.
+fn depth_sounder(address: [u8; 5]) -> Result<[u8; 2], SentenceError>
+    ensures { result ≡ ok_or (sounder_of address) SentenceError.NotDepth }
 {
-    let len = bytes.len();
-    let sum = checksum(&bytes[1..len - 3]);
-    let [high, low] = hex_digits(sum);
-    bytes[len - 2] == high && bytes[len - 1] == low
+    match address {
+        [first, second, b'D', b'P', b'T'] => Ok([first, second]),
+        _ => Err(SentenceError::NotDepth),
+    }
 }
 
 // What `read_address` answers.
 fn parse_address(bytes: &[u8]) -> Result<Address, SentenceError>
-    ensures value { result ≡ address_of bytes.now }
-    ensures lengths { is_ok result ≡ true → (9 ≤ length bytes.now) × (length bytes.now ≤ 80) }
+    ensures { result ≡ address_of bytes.now }
 {
-    if let Some(column) = shape_fault(bytes) {
-        return Err(SentenceError::Shape { column });
-    }
-    if !has_right_sum(bytes) {
-        let column = bytes.len() - 1;
-        return Err(SentenceError::Checksum { column });
-    }
+    let sentence = Shaped::read(bytes)?;
+    sentence.check_sum()?;
     Ok(Address {
-        bytes: [bytes[1], bytes[2], bytes[3], bytes[4], bytes[5]],
+        bytes: sentence.address(),
     })
 }
 
-// The sounder that an address names, where it is a depth sentence's.
-fn depth_sounder(address: &Address) -> Option<[u8; 2]>
-    ensures { result ≡ sounder_of address.now.bytes }
+// The reading that a sentence gives once its shape and sum are right.
+fn depth_reading(sentence: &Shaped) -> Result<Reading, SentenceError>
+    ensures { result ≡ depth_at (sounder_of (address_bytes sentence.now)) (fields_of sentence.now) }
 {
-    match address.bytes {
-        [first, second, b'D', b'P', b'T'] => Some([first, second]),
-        _ => None,
-    }
+    let sounder = depth_sounder(sentence.address())?;
+    let clearance = clearance(sentence.fields())?;
+    Ok(Reading { sounder, clearance })
 }
 
 // What `read_depth` answers.
 fn parse_depth(bytes: &[u8]) -> Result<Reading, SentenceError>
     ensures { result ≡ reading_of bytes.now }
 {
-    let address = parse_address(bytes)?;
-    let Some(sounder) = depth_sounder(&address) else {
-        return Err(SentenceError::NotDepth);
-    };
-    let clearance = clearance(&bytes[6..bytes.len() - 3])?;
-    Ok(Reading { sounder, clearance })
+    let sentence = Shaped::read(bytes)?;
+    sentence.check_sum()?;
+    depth_reading(&sentence)
 }
 
 /// The address of a sentence of right shape and checksum.

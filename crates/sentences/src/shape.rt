@@ -1,8 +1,13 @@
-//! Where the shape of a sentence goes wrong.
+//! The shape of a sentence, and its parts by it.
 
-ghost use Rattle.std.specs.Prelude.{◌≡◌, ◌≤◌, length, None, nat_lt};
+ghost use Rattle.std.specs.Prelude.{◌≡◌};
 ghost use Rattle.sentences.specs.Bytes.{is_address_byte, is_field_byte, is_hex_digit};
-ghost use Rattle.sentences.specs.Shape.{after, end_fault, shape_fault};
+ghost use Rattle.sentences.specs.Reader.{address_bytes, fields_of, sum_checked};
+ghost use Rattle.sentences.specs.Shape.{after, end_fault, shape_fault, unless_fault};
+
+use crate::error::SentenceError;
+use crate::sums::{checksum, hex_digits};
+use std::marker::Model;
 
 // A sentence has at most this many bytes.
 const LONGEST: usize = 80;
@@ -26,77 +31,108 @@ enum Expect {
 fn is_address_byte(byte: u8) -> bool
     ensures { result ≡ is_address_byte byte }
 {
-    byte.is_ascii_digit() || byte.is_ascii_uppercase()
+    matches!(byte, b'0'..=b'9' | b'A'..=b'Z')
 }
 
 // Printable ASCII without `$`, `!` and `*`.
 fn is_field_byte(byte: u8) -> bool
     ensures { result ≡ is_field_byte byte }
 {
-    0x20 <= byte && byte <= 0x7E && byte != b'$' && byte != b'!' && byte != b'*'
+    matches!(byte, 0x20..=0x7E) && !matches!(byte, b'$' | b'!' | b'*')
 }
 
 // Digits and the letters A to F, as capitals.
 fn is_hex_digit(byte: u8) -> bool
     ensures { result ≡ is_hex_digit byte }
 {
-    byte.is_ascii_digit() || b'A' <= byte && byte <= b'F'
+    matches!(byte, b'0'..=b'9' | b'A'..=b'F')
 }
 
-// What has to follow once `byte` came; None where it is wrong.
-fn next(expect: Expect, byte: u8) -> Option<Expect>
-    ensures { result ≡ after expect byte }
-{
-    match expect {
-        Expect::Dollar if byte == b'$' => Some(Expect::Address(4)),
-        Expect::Address(left) if is_address_byte(byte) => {
-            if left == 0 {
-                Some(Expect::Separator)
-            } else {
-                Some(Expect::Address(left - 1))
+impl Expect {
+    // What has to follow once `byte` came; None where it is wrong.
+    fn after(self, byte: u8) -> Option<Expect>
+        ensures { result ≡ after self byte }
+    {
+        match self {
+            Expect::Dollar if byte == b'$' => Some(Expect::Address(4)),
+            Expect::Address(0) if is_address_byte(byte) => Some(Expect::Separator),
+            Expect::Address(left) if is_address_byte(byte) => Some(Expect::Address(left - 1)),
+            Expect::Separator if byte == b',' => Some(Expect::Fields),
+            Expect::Fields if is_field_byte(byte) => Some(Expect::Fields),
+            Expect::Separator | Expect::Fields if byte == b'*' => Some(Expect::HighDigit),
+            Expect::HighDigit if is_hex_digit(byte) => Some(Expect::LowDigit),
+            Expect::LowDigit if is_hex_digit(byte) => Some(Expect::End),
+            _ => None,
+        }
+    }
+
+    // Whether the bytes may end here; `column` is the one after the last.
+    fn end(self, column: usize) -> Result<(), SentenceError>
+        ensures { result ≡ unless_fault (end_fault self column) tt }
+    {
+        match self {
+            Expect::End => Ok(()),
+            _ => Err(SentenceError::Shape { column }),
+        }
+    }
+}
+
+// Bytes that have the shape of a sentence.
+#[derive(Drop)]
+pub(crate) struct Shaped<'a> {
+    bytes: &'a [u8],
+}
+
+impl<'a> Model for Shaped<'a> {
+    ghost use Rattle.std.specs.Prelude.{List, ℕ, ◌≤◌, length};
+
+    ghost Value = { List ℕ };
+
+    ghost view = { λ s. s.bytes.now };
+
+    ghost invariant = { λ s. (9 ≤ length s.bytes.now) × (length s.bytes.now ≤ 80) };
+}
+
+impl<'a> Shaped<'a> {
+    // Refuses the first wrong column.
+    pub(crate) fn read(bytes: &'a [u8]) -> Result<Self, SentenceError>
+        ensures { result ≡ unless_fault (shape_fault bytes.now) bytes.now }
+    {
+        let mut expect = Expect::Dollar;
+        for (i, byte) in bytes.iter().enumerate() {
+            let column = i + 1;
+            if column > LONGEST {
+                return Err(SentenceError::Shape { column });
             }
+            expect = expect.after(*byte).ok_or(SentenceError::Shape { column })?;
         }
-        Expect::Separator if byte == b',' => Some(Expect::Fields),
-        Expect::Fields if is_field_byte(byte) => Some(Expect::Fields),
-        Expect::Separator | Expect::Fields if byte == b'*' => Some(Expect::HighDigit),
-        Expect::HighDigit if is_hex_digit(byte) => Some(Expect::LowDigit),
-        Expect::LowDigit if is_hex_digit(byte) => Some(Expect::End),
-        _ => None,
+        expect.end(bytes.len() + 1)?;
+        Ok(Shaped { bytes })
     }
-}
 
-// Whether a column lies past the longest sentence's end.
-fn is_past_limit(column: usize) -> bool
-    ensures { result ≡ nat_lt 80 column }
-{
-    column > LONGEST
-}
-
-// The column after the last byte, where more was expected.
-fn end_fault(expect: Expect, column: usize) -> Option<usize>
-    ensures { result ≡ end_fault expect column }
-{
-    match expect {
-        Expect::End => None,
-        _ => Some(column),
-    }
-}
-
-// The first wrong column of a sentence's shape; None where it is right.
-pub(crate) fn shape_fault(bytes: &[u8]) -> Option<usize>
-    ensures value { result ≡ shape_fault bytes.now }
-    ensures lengths { result ≡ None → (9 ≤ length bytes.now) × (length bytes.now ≤ 80) }
-{
-    let mut expect = Expect::Dollar;
-    for (i, byte) in bytes.iter().enumerate() {
-        let column = i + 1;
-        if is_past_limit(column) {
-            return Some(column);
+    // Whether the last two bytes write the checksum of what stands between `$` and `*`.
+    pub(crate) fn check_sum(&self) -> Result<(), SentenceError>
+        ensures { result ≡ sum_checked self.now }
+    {
+        let star = self.bytes.len() - 3;
+        let sum = checksum(&self.bytes[1..star]);
+        if !self.bytes.ends_with(&hex_digits(sum)) {
+            return Err(SentenceError::Checksum { column: star + 2 });
         }
-        let Some(following) = next(expect, *byte) else {
-            return Some(column);
-        };
-        expect = following;
+        Ok(())
     }
-    end_fault(expect, bytes.len() + 1)
+
+    // The five bytes after the `$`.
+    pub(crate) fn address(&self) -> [u8; 5]
+        ensures { result ≡ address_bytes self.now }
+    {
+        *self.bytes[1..].first_chunk().unwrap()
+    }
+
+    // What stands between the address and the `*`.
+    pub(crate) fn fields(&self) -> &'a [u8]
+        ensures { result.now ≡ fields_of self.now }
+    {
+        &self.bytes[6..self.bytes.len() - 3]
+    }
 }

@@ -3,27 +3,22 @@
 ghost use Rattle.std.specs.Prelude.{◌≡◌, ◌<◌};
 ghost use Rattle.sentences.specs.Bytes.{hex_digit, hex_text, sum_of};
 
+// Letters as capitals.
+const HEX_DIGITS: [u8; 16] = *b"0123456789ABCDEF";
+
 /// The checksum of a part of a sentence: the exclusive or of its bytes.
 pub fn checksum(part: &[u8]) -> u8
     ensures { result ≡ sum_of part.now }
 {
-    let mut sum = 0;
-    for byte in part {
-        sum ^= *byte;
-    }
-    sum
+    part.iter().fold(0, |sum, byte| sum ^ byte)
 }
 
-// The hexadecimal digit of a number below 16, letters as capitals.
+// The hexadecimal digit of a number below 16.
 fn hex_digit(value: u8) -> u8
     requires { value < 16 }
     ensures { result ≡ hex_digit value }
 {
-    if value < 10 {
-        b'0' + value
-    } else {
-        b'A' - 10 + value
-    }
+    HEX_DIGITS[value as usize]
 }
 
 // A byte in two hexadecimal digits.

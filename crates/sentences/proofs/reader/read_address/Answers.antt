@@ -5,7 +5,7 @@ use Rattle.sentences.proofs.reader.read_address.Goals as goal
 pub returns : goal.returns
 returns c =
     let bytes = c.args.bytes.now in
-    let value = c.parse_address.ensures.value in
+    let value = c.parse_address.ensures in
     record {
       value = value;
       exactly = address_exactly bytes _ value;
