@@ -1,23 +1,20 @@
 -- Fields give a clearance exactly if they are a depth, an offset and at most one field more.
-use Rattle.std.proofs.Common.{◌≡◌, ℕ, ◌+◌, Bool, true, false, cond, eqb, leb, List, [], ◌∷◌, ◌++◌, length, take, drop, ℤ, pos, ◌-ℤ◌, Some, None, Ok, Option, Result, sym, refl, ap, ◌∙◌, inl, inr, append-nil, arith}
+use Rattle.std.proofs.Common.{◌≡◌, ℕ, ◌+◌, Bool, true, false, cond, eqb, leb, List, [], ◌∷◌, ◌++◌, length, take, drop, ℤ, pos, ◌-ℤ◌, Some, None, Ok, Err, Option, Result, sym, refl, ap, ◌∙◌, inl, inr, append-nil, arith}
 use Rattle.std.specs.List.{prefix_len, AllByRecursion}
 use Rattle.std.proofs.ByRecursion.{All-weaker, All-append}
 use Rattle.std.proofs.lemmas.List.{take_at, drop_at, take-append-drop, nil_from_length}
 use Rattle.std.proofs.lemmas.Bool.{eqb-true, eqb-false, ne_eqb, not-true, not-false, not_from_false, and_parts, leb-true}
 use Rattle.sentences.specs.Bytes.{is_digit}
-use Rattle.sentences.specs.Fields.{is_of, next_field, metres_of, keel_of, fourth_at, extra_of, needed, unless_extra, clearance_of}
+use Rattle.sentences.specs.Fields.{not_comma, next_field, metres_of, keel_of, fourth_at, extra_of, needed, unless_extra, clearance_of}
 use Rattle.sentences.specs.Format.{CommaFirst, pointed, Metres, OneField}
 use Rattle.sentences.specs.declared.error.SentenceError.{SentenceError}
-use Rattle.sentences.specs.declared.fields.Run.TheVariants.{Field}
+use Rattle.sentences.specs.declared.error.SentenceError.TheVariants.{NoClearance}
 use Rattle.sentences.proofs.Leading.{leading_front, leading_passes, leading_stops, fails_leading, Fails}
 use Rattle.sentences.proofs.Numbers.{metres_right, right_metres}
 use Rattle.sentences.proofs.Somes.{none_some, same_some, err_ok, same_ok}
 
-abbrev in_field : ℕ → Bool
-in_field b = is_of Field b
-
 abbrev InField : List ℕ → Type 0
-InField xs = AllByRecursion (λ b. in_field b ≡ true) xs
+InField xs = AllByRecursion (λ b. not_comma b ≡ true) xs
 
 -- a field, and what follows it, cut off a list that begins with a comma
 
@@ -25,40 +22,40 @@ split_right : (fields text rest : List ℕ) → CommaFirst fields → next_field
 split_right [] text rest first e = none_some e
 split_right (b ∷ bs) text rest first e =
     let both = same_some e in
-    let front : take (prefix_len in_field bs) bs ≡ text = ap (λ p. p.0) both in
-    let back : drop (prefix_len in_field bs) bs ≡ rest = ap (λ p. p.1) both in (
-      ap (λ c. c ∷ bs) first ∙ ap (λ ys. 44 ∷ ys) (sym (take-append-drop (prefix_len in_field bs) bs) ∙ ap (λ ys. ys ++ drop (prefix_len in_field bs) bs) front ∙ ap (λ ys. text ++ ys) back),
-      rw front at (leading_passes in_field bs),
-      comma rest (rw back at (leading_stops in_field bs)),
+    let front : take (prefix_len not_comma bs) bs ≡ text = ap (λ p. p.0) both in
+    let back : drop (prefix_len not_comma bs) bs ≡ rest = ap (λ p. p.1) both in (
+      ap (λ c. c ∷ bs) first ∙ ap (λ ys. 44 ∷ ys) (sym (take-append-drop (prefix_len not_comma bs) bs) ∙ ap (λ ys. ys ++ drop (prefix_len not_comma bs) bs) front ∙ ap (λ ys. text ++ ys) back),
+      rw front at (leading_passes not_comma bs),
+      comma rest (rw back at (leading_stops not_comma bs)),
     )
   where
-    comma : (ys : List ℕ) → Fails in_field ys → CommaFirst ys
+    comma : (ys : List ℕ) → Fails not_comma ys → CommaFirst ys
     comma [] h = tt
     comma (y ∷ ys) h = eqb-true y 44 (not-false (eqb y 44) h)
 
 right_split : (c : ℕ) (text rest : List ℕ) → InField text → CommaFirst rest → next_field (c ∷ (text ++ rest)) ≡ Some (text, rest)
 right_split c text rest all first =
-    let long : prefix_len in_field (text ++ rest) ≡ length text = leading_front in_field text rest all (fails_leading in_field rest (fails rest first)) in
+    let long : prefix_len not_comma (text ++ rest) ≡ length text = leading_front not_comma text rest all (fails_leading not_comma rest (fails rest first)) in
     ap (λ n. Some (take n (text ++ rest), drop n (text ++ rest))) long ∙ ap (λ xs. Some (xs, drop (length text) (text ++ rest))) (take_at text rest (length text) refl) ∙ ap (λ xs. Some (text, xs)) (drop_at text rest (length text) refl)
   where
-    fails : (ys : List ℕ) → CommaFirst ys → Fails in_field ys
+    fails : (ys : List ℕ) → CommaFirst ys → Fails not_comma ys
     fails [] h = tt
-    fails (y ∷ ys) h = ap in_field h
+    fails (y ∷ ys) h = ap not_comma h
 
 -- a number has no comma
 
-digit_in_field : (b : ℕ) → is_digit b ≡ true → in_field b ≡ true
-digit_in_field b d =
+digit_not_comma : (b : ℕ) → is_digit b ≡ true → not_comma b ≡ true
+digit_not_comma b d =
     let low = and_parts (leb 48 b) (leb b 57) d in
     not_from_false (eqb b 44) (ne_eqb b 44 (λ e. omega (arith, leb-true 48 b low.0)))
 
-pointed_in_field : (fraction : List ℕ) → AllByRecursion (λ b. is_digit b ≡ true) fraction → InField (pointed fraction)
-pointed_in_field [] all = tt
-pointed_in_field (d ∷ ds) all = (refl, All-weaker _ _ digit_in_field (d ∷ ds) all)
+pointed_not_comma : (fraction : List ℕ) → AllByRecursion (λ b. is_digit b ≡ true) fraction → InField (pointed fraction)
+pointed_not_comma [] all = tt
+pointed_not_comma (d ∷ ds) all = (refl, All-weaker _ _ digit_not_comma (d ∷ ds) all)
 
-metres_in_field : (text : List ℕ) (n : ℕ) → Metres text n → InField text
-metres_in_field text n m =
-    rw m.joined (All-append _ m.whole (pointed m.fraction) (All-weaker _ _ digit_in_field m.whole m.whole_digits) (pointed_in_field m.fraction m.fraction_digits))
+metres_not_comma : (text : List ℕ) (n : ℕ) → Metres text n → InField text
+metres_not_comma text n m =
+    rw m.joined (All-append _ m.whole (pointed m.fraction) (All-weaker _ _ digit_not_comma m.whole m.whole_digits) (pointed_not_comma m.fraction m.fraction_digits))
 
 keel_right : (text : List ℕ) (n : ℕ) → keel_of text ≡ Some n → (offset : List ℕ) × (text ≡ 45 ∷ offset) × Metres offset n
 keel_right [] n e = none_some e
@@ -72,14 +69,14 @@ keel_right (b ∷ bs) n e = by (eqb b 45) refl e
 
 extra_right : (column : ℕ) (rest : List ℕ) → CommaFirst rest → extra_of column rest ≡ None → OneField rest
 extra_right column [] first e = inl refl
-extra_right column (b ∷ bs) first e = by (eqb (length (drop (prefix_len in_field bs) bs)) 0) refl e
+extra_right column (b ∷ bs) first e = by (eqb (length (drop (prefix_len not_comma bs) bs)) 0) refl e
   where
-    by : (t : Bool) → eqb (length (drop (prefix_len in_field bs) bs)) 0 ≡ t → cond t None (Some (column + 2 + length (take (prefix_len in_field bs) bs))) ≡ None → OneField (b ∷ bs)
+    by : (t : Bool) → eqb (length (drop (prefix_len not_comma bs) bs)) 0 ≡ t → cond t None (Some (column + 2 + length (take (prefix_len not_comma bs) bs))) ≡ None → OneField (b ∷ bs)
     by false more e = none_some (sym e)
     by true none e =
-        let empty = nil_from_length (drop (prefix_len in_field bs) bs) (eqb-true _ 0 none) in
-        let whole : take (prefix_len in_field bs) bs ≡ bs = sym (append-nil _) ∙ ap (λ ys. take (prefix_len in_field bs) bs ++ ys) (sym empty) ∙ take-append-drop (prefix_len in_field bs) bs in
-        inr (bs, ap (λ c. c ∷ bs) first, All-weaker _ _ (λ c h. eqb-false c 44 (not-true (eqb c 44) h)) bs (rw whole at (leading_passes in_field bs)))
+        let empty = nil_from_length (drop (prefix_len not_comma bs) bs) (eqb-true _ 0 none) in
+        let whole : take (prefix_len not_comma bs) bs ≡ bs = sym (append-nil _) ∙ ap (λ ys. take (prefix_len not_comma bs) bs ++ ys) (sym empty) ∙ take-append-drop (prefix_len not_comma bs) bs in
+        inr (bs, ap (λ c. c ∷ bs) first, All-weaker _ _ (λ c h. eqb-false c 44 (not-true (eqb c 44) h)) bs (rw whole at (leading_passes not_comma bs)))
 
 right_extra : (column : ℕ) (rest : List ℕ) → OneField rest → extra_of column rest ≡ None
 right_extra column rest (inl none) = ap (extra_of column) none
@@ -136,24 +133,42 @@ clearance_right column fields x first e =
       value = last.1;
     }
 
--- how the clearance goes on past the offset, and past the depth
-abbrev past_offset : ℕ → ℕ → List ℕ × List ℕ → Result ℤ SentenceError
+-- how the clearance goes on from the offset, whose comma stands at `at`
+abbrev pub past_offset : ℕ → ℕ → List ℕ × List ℕ → Result ℤ SentenceError
 past_offset at deep offset =
     needed (keel_of offset.0) (at + 1) (λ keel. unless_extra (extra_of (at + 1 + length offset.0) offset.1) (pos deep -ℤ pos keel))
 
-abbrev past_depth : ℕ → List ℕ × List ℕ → Result ℤ SentenceError
-past_depth column depth =
-    needed (metres_of depth.0) (column + 1) (λ deep. needed (next_field depth.1) (column + 1 + length depth.0) (past_offset (column + 1 + length depth.0) deep))
+-- the clearance once depth and offset are cut off and the depth is a number
+pub clearance_past : (column : ℕ) (fields text rest : List ℕ) (deep : ℕ) (text' rest' : List ℕ) → next_field fields ≡ Some (text, rest) → metres_of text ≡ Some deep → next_field rest ≡ Some (text', rest') → clearance_of column fields ≡ past_offset (column + 1 + length text) deep (text', rest')
+clearance_past column fields text rest deep text' rest' one metres two =
+    let at : ℕ = column + 1 + length text in
+    ap (λ o. needed o column (λ depth. needed (metres_of depth.0) (column + 1) (λ n. needed (next_field depth.1) (column + 1 + length depth.0) (past_offset (column + 1 + length depth.0) n)))) one
+    ∙ ap (λ o. needed o (column + 1) (λ n. needed (next_field rest) at (past_offset at n))) metres
+    ∙ ap (λ o. needed o at (past_offset at deep)) two
+
+-- the offset is no number behind a minus
+pub offset_refused : (at deep column : ℕ) (text rest : List ℕ) → keel_of text ≡ None → column ≡ at + 1 → past_offset at deep (text, rest) ≡ Err (NoClearance column)
+offset_refused at deep column text rest none place =
+    ap (λ o. needed o (at + 1) (λ keel. unless_extra (extra_of (at + 1 + length text) rest) (pos deep -ℤ pos keel))) none ∙ ap (λ n. Err (NoClearance n)) (sym place)
+
+-- the offset is one, and no fourth field follows
+pub offset_read : (at deep keel column : ℕ) (text rest : List ℕ) → keel_of text ≡ Some keel → column ≡ at + 1 + length text → ◌≡◌ {A = Result (Unit {0}) SentenceError} (Ok tt) (unless_extra (extra_of column rest) tt) → past_offset at deep (text, rest) ≡ Ok (pos deep -ℤ pos keel)
+offset_read at deep keel column text rest some place end =
+    ap (λ o. needed o (at + 1) (λ n. unless_extra (extra_of (at + 1 + length text) rest) (pos deep -ℤ pos n))) some
+    ∙ ap (λ n. unless_extra (extra_of n rest) (pos deep -ℤ pos keel)) (sym place)
+    ∙ ap (λ o. unless_extra o (pos deep -ℤ pos keel)) (none (extra_of column rest) end)
+  where
+    none : (o : Option ℕ) → ◌≡◌ {A = Result (Unit {0}) SentenceError} (Ok tt) (unless_extra o tt) → o ≡ None
+    none None e = refl
+    none (Some n) e = err_ok (sym e)
 
 pub right_clearance : (column : ℕ) (fields : List ℕ) (x : ℤ) → Depth fields x → clearance_of column fields ≡ Ok x
 right_clearance column fields x d =
     let behind = 44 ∷ 45 ∷ (d.offset ++ d.rest) in
-    let one : next_field fields ≡ Some (d.depth, behind) = ap next_field d.joined ∙ right_split 44 d.depth behind (metres_in_field d.depth d.deep d.depth_metres) refl in
-    let two : next_field behind ≡ Some (45 ∷ d.offset, d.rest) = right_split 44 (45 ∷ d.offset) d.rest (refl, metres_in_field d.offset d.keel d.offset_metres) (one_comma_first d.rest d.rest_one) in
+    let one : next_field fields ≡ Some (d.depth, behind) = ap next_field d.joined ∙ right_split 44 d.depth behind (metres_not_comma d.depth d.deep d.depth_metres) refl in
+    let two : next_field behind ≡ Some (45 ∷ d.offset, d.rest) = right_split 44 (45 ∷ d.offset) d.rest (refl, metres_not_comma d.offset d.keel d.offset_metres) (one_comma_first d.rest d.rest_one) in
     let at : ℕ = column + 1 + length d.depth in
-    ap (λ o. needed o column (past_depth column)) one
-    ∙ ap (λ o. needed o (column + 1) (λ deep. needed (next_field behind) at (past_offset at deep))) (right_metres d.depth d.deep d.depth_metres)
-    ∙ ap (λ o. needed o at (past_offset at d.deep)) two
+    clearance_past column fields d.depth behind d.deep (45 ∷ d.offset) d.rest one (right_metres d.depth d.deep d.depth_metres) two
     ∙ ap (λ o. needed o (at + 1) (λ keel. unless_extra (extra_of (at + 1 + length (45 ∷ d.offset)) d.rest) (pos d.deep -ℤ pos keel))) (right_metres d.offset d.keel d.offset_metres)
     ∙ ap (λ o. unless_extra o (pos d.deep -ℤ pos d.keel)) (right_extra (at + 1 + length (45 ∷ d.offset)) d.rest d.rest_one)
     ∙ ap Ok (sym d.value)

@@ -2,7 +2,6 @@ pub mod Accepts
 pub mod Clearances
 pub mod Decided
 pub mod Faults
-pub mod Fronts
 pub mod Laws
 pub mod Leading
 pub mod Numbers

@@ -1,5 +1,6 @@
 -- What an answer says that is there.
-use Rattle.std.proofs.Common.{◌≡◌, ℕ, Bool, true, false, cond, ◌⊎◌, Some, None, Ok, Err, Option, Result, refl, inl, inr, arith}
+use Rattle.std.proofs.Common.{◌≡◌, ℕ, Bool, true, false, cond, ◌⊎◌, Some, None, Ok, Err, Option, Result, sym, refl, ap, inl, inr, arith}
+use Rattle.std.specs.Option.{ok_or}
 
 pub none_some : {P A : Type 0} {x : A} → ◌≡◌ {A = Option A} None (Some x) → P
 none_some e = let z : ◌≡◌ {A = ℕ} 0 1 = cc in absurd (omega arith)
@@ -24,3 +25,12 @@ same_ok e = cc
 
 pub same_err : {T E : Type 0} {x y : E} → ◌≡◌ {A = Result T E} (Err x) (Err y) → x ≡ y
 same_err e = cc
+
+-- what `ok_or` answers
+pub some_of_ok : {T E : Type 0} (o : Option T) (e : E) (x : T) → Ok x ≡ ok_or o e → o ≡ Some x
+some_of_ok None e x h = err_ok (sym h)
+some_of_ok (Some y) e x h = ap Some (same_ok (sym h))
+
+pub none_of_err : {T E : Type 0} (o : Option T) (e f : E) → Err f ≡ ok_or o e → (o ≡ None) × (f ≡ e)
+none_of_err None e f h = (refl, same_err h)
+none_of_err (Some y) e f h = err_ok h

@@ -6,18 +6,15 @@ use Rattle.std.specs.List.{prefix_len}
 use Rattle.sentences.specs.Bytes.{is_digit}
 use Rattle.sentences.specs.declared.error.SentenceError.{SentenceError}
 use Rattle.sentences.specs.declared.error.SentenceError.TheVariants.{NoClearance}
-use Rattle.sentences.specs.declared.fields.Run.{Run}
-use Rattle.sentences.specs.declared.fields.Run.TheVariants.{Digits, Field}
 
--- the bytes of a run: digits, or all but the comma
-abbrev pub is_of : Run → ℕ → Bool
-is_of Digits b = is_digit b
-is_of Field b = not (b == 44)
+-- what a field is made of: any byte but the comma
+abbrev pub not_comma : ℕ → Bool
+not_comma b = not (b == 44)
 
 -- the text of the field that a comma begins, and what follows it
 abbrev pub next_field : List ℕ → Option (List ℕ × List ℕ)
 next_field [] = None
-next_field (comma ∷ bytes) = Some (take (prefix_len (is_of Field) bytes) bytes, drop (prefix_len (is_of Field) bytes) bytes)
+next_field (comma ∷ bytes) = Some (take (prefix_len not_comma bytes) bytes, drop (prefix_len not_comma bytes) bytes)
 
 -- the number that one to four digits write
 abbrev pub decimal_few : List ℕ → Option ℕ
@@ -60,10 +57,10 @@ abbrev pub needed : {A : Type 0} → Option A → ℕ → (A → Result ℤ Sent
 needed None column next = Err (NoClearance column)
 needed (Some x) column next = next x
 
--- no clearance, at the column of a fourth field, or else the clearance
-abbrev pub unless_extra : Option ℕ → ℤ → Result ℤ SentenceError
-unless_extra None clearance = Ok clearance
-unless_extra (Some column) clearance = Err (NoClearance column)
+-- no clearance, at the column of a fourth field, or else what is right
+abbrev pub unless_extra : {A : Type 0} → Option ℕ → A → Result A SentenceError
+unless_extra None right = Ok right
+unless_extra (Some column) right = Err (NoClearance column)
 
 -- the clearance that fields give, from the column where they begin: depth less what the keel takes of it
 abbrev pub clearance_of : ℕ → List ℕ → Result ℤ SentenceError

@@ -1,56 +1,15 @@
 //! The fields of a depth sentence, and the clearance that they give.
 
-ghost use Rattle.std.specs.Prelude.{◌≡◌, ◌+◌, ◌-◌, ◌^◌, ◌<◌, ◌≤◌, length, IfSome};
-ghost use Rattle.std.specs.Option.{option_map};
+ghost use Rattle.std.specs.Prelude.{◌≡◌, ◌+◌, ◌-◌, ◌^◌, ◌<◌, ◌≤◌, length, IfSome, IfOk, MatchResult};
 ghost use Rattle.std.specs.List.{prefix_len};
-ghost use Rattle.sentences.specs.Fields.{is_of, next_field, decimal_few, hundredths_of, metres_of, keel_of, extra_of, clearance_of};
+ghost use Rattle.std.specs.Option.{ok_or};
+ghost use Rattle.sentences.specs.Bytes.{is_digit};
+ghost use Rattle.sentences.specs.Fields.{clearance_of, decimal_few, extra_of, hundredths_of, keel_of, metres_of, next_field, not_comma, unless_extra};
 
 use crate::error::SentenceError;
 
 // The column where the fields of a sentence begin.
 const FIELDS_AT: usize = 7;
-
-// The bytes that a run is made of.
-#[derive(Clone, Copy)]
-enum Run {
-    Digits,
-    // all up to a comma
-    Field,
-}
-
-// Whether a byte is one of a run.
-fn belongs(run: Run, byte: u8) -> bool
-    ensures { result ≡ is_of run byte }
-{
-    match run {
-        Run::Digits => byte.is_ascii_digit(),
-        Run::Field => byte != b',',
-    }
-}
-
-// How long the run at the front is.
-fn run_length(run: Run, text: &[u8]) -> usize
-    ensures value { result ≡ prefix_len (is_of run) text.now }
-    ensures within { result ≤ length text.now }
-{
-    for (i, byte) in text.iter().enumerate() {
-        if !belongs(run, *byte) {
-            return i;
-        }
-    }
-    text.len()
-}
-
-// The text of the field that a comma begins, and what follows it.
-fn next_field(fields: &[u8]) -> Option<(&[u8], &[u8])>
-    ensures value { option_map (λ p. (p.0.now, p.1.now)) result ≡ next_field fields.now }
-    ensures lengths { IfSome result (λ p. 1 + length p.0.now + length p.1.now ≡ length fields.now) }
-{
-    let [_, rest @ ..] = fields else {
-        return None;
-    };
-    Some(rest.split_at(run_length(Run::Field, rest)))
-}
 
 // What a digit is worth.
 fn digit_value(byte: u8) -> u32
@@ -90,15 +49,29 @@ fn hundredths(text: &[u8]) -> Option<u32>
     }
 }
 
+// How many digits a text begins with.
+fn leading_digits(text: &[u8]) -> usize
+    ensures value { result ≡ prefix_len is_digit text.now }
+    ensures within { result ≤ length text.now }
+{
+    text.iter().take_while(|byte| byte.is_ascii_digit()).count()
+}
+
+// How long the field is that a text begins with.
+fn field_length(text: &[u8]) -> usize
+    ensures value { result ≡ prefix_len not_comma text.now }
+    ensures within { result ≤ length text.now }
+{
+    text.iter().take_while(|byte| **byte != b',').count()
+}
+
 // A number in metres, in centimetres.
 fn metres(text: &[u8]) -> Option<u32>
     ensures value { result ≡ metres_of text.now }
     ensures bound { IfSome result (λ n. n ≤ 23000100) }
 {
-    let (digits, rest) = text.split_at(run_length(Run::Digits, text));
-    let whole = decimal(digits)?;
-    let part = hundredths(rest)?;
-    Some(100 * whole + part)
+    let (whole, part) = text.split_at(leading_digits(text));
+    Some(100 * decimal(whole)? + hundredths(part)?)
 }
 
 // How far the keel is below the transducer: an offset is written with a minus.
@@ -106,47 +79,91 @@ fn keel(text: &[u8]) -> Option<u32>
     ensures value { result ≡ keel_of text.now }
     ensures bound { IfSome result (λ n. n ≤ 23000100) }
 {
-    let [b'-', rest @ ..] = text else {
-        return None;
-    };
-    metres(rest)
+    metres(text.strip_prefix(b"-")?)
 }
 
-// The column of a fourth field, where there is one.
-fn extra(column: usize, rest: &[u8]) -> Option<usize>
-    requires { column + length rest.now < 2 ^ 63 + 80 }
-    ensures { result ≡ extra_of column rest.now }
-{
-    let (third, more) = next_field(rest)?;
-    if more.is_empty() {
-        return None;
+// A field's text, and the column where it begins.
+#[derive(Clone, Copy)]
+struct Field<'a> {
+    column: usize,
+    text: &'a [u8],
+}
+
+impl Field<'_> {
+    // That the field keeps the clearance from being read.
+    fn refusal(&self) -> SentenceError
+        ensures { result ≡ SentenceError.NoClearance self.now.column }
+    {
+        SentenceError::NoClearance {
+            column: self.column,
+        }
     }
-    Some(column + 2 + third.len())
+
+    fn metres(&self) -> Result<u32, SentenceError>
+        ensures value { result ≡ ok_or (metres_of self.now.text.now) (SentenceError.NoClearance self.now.column) }
+        ensures bound { IfOk result (λ n. n ≤ 23000100) }
+    {
+        metres(self.text).ok_or(self.refusal())
+    }
+
+    fn keel(&self) -> Result<u32, SentenceError>
+        ensures value { result ≡ ok_or (keel_of self.now.text.now) (SentenceError.NoClearance self.now.column) }
+        ensures bound { IfOk result (λ n. n ≤ 23000100) }
+    {
+        keel(self.text).ok_or(self.refusal())
+    }
+}
+
+// What is left of the fields, and the column where it begins.
+#[derive(Drop)]
+struct Fields<'a> {
+    column: usize,
+    rest: &'a [u8],
+    ghost in_range: { column + length rest.now < 2 ^ 64 },
+}
+
+impl<'a> Fields<'a> {
+    // Takes the field that a comma begins here, or refuses this column.
+    fn next(&mut self) -> Result<Field<'a>, SentenceError>
+        ensures taken { MatchResult result (λ field. next_field self.old.rest.now ≡ Some (field.text.now, self.new.rest.now)) (λ error. (next_field self.old.rest.now ≡ None) × (error ≡ SentenceError.NoClearance self.old.column)) }
+        ensures columns { IfOk result (λ field. (field.column ≡ self.old.column + 1) × (self.new.column ≡ self.old.column + 1 + length field.text.now)) }
+    {
+        let here = SentenceError::NoClearance {
+            column: self.column,
+        };
+        let (_, rest) = self.rest.split_first().ok_or(here)?;
+        let (text, rest) = rest.split_at(field_length(rest));
+        let column = self.column + 1;
+        *self = Fields {
+            column: column + text.len(),
+            rest,
+        };
+        Ok(Field { column, text })
+    }
+
+    // A third field may stand, whatever it holds; a fourth is refused.
+    fn end(mut self) -> Result<(), SentenceError>
+        ensures { result ≡ unless_extra (extra_of self.entry.column self.entry.rest.now) tt }
+    {
+        if self.next().is_ok() && !self.rest.is_empty() {
+            return Err(SentenceError::NoClearance {
+                column: self.column + 1,
+            });
+        }
+        Ok(())
+    }
 }
 
 // The clearance in centimetres that the fields give.
 pub(crate) fn clearance(fields: &[u8]) -> Result<i32, SentenceError>
     ensures { result ≡ clearance_of 7 fields.now }
 {
-    let column = FIELDS_AT;
-    let Some((depth, rest)) = next_field(fields) else {
-        return Err(SentenceError::NoClearance { column });
+    let mut fields = Fields {
+        column: FIELDS_AT,
+        rest: fields,
     };
-    let column = column + 1;
-    let Some(deep) = metres(depth) else {
-        return Err(SentenceError::NoClearance { column });
-    };
-    let column = column + depth.len();
-    let Some((offset, rest)) = next_field(rest) else {
-        return Err(SentenceError::NoClearance { column });
-    };
-    let column = column + 1;
-    let Some(keel) = keel(offset) else {
-        return Err(SentenceError::NoClearance { column });
-    };
-    let column = column + offset.len();
-    if let Some(column) = extra(column, rest) {
-        return Err(SentenceError::NoClearance { column });
-    }
+    let deep = fields.next()?.metres()?;
+    let keel = fields.next()?.keel()?;
+    fields.end()?;
     Ok(deep as i32 - keel as i32)
 }
