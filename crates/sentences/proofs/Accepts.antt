@@ -18,14 +18,14 @@ abbrev Tail : List ℕ → Type 0
 Tail xs = (fields : List ℕ) × (digits : List ℕ) × (xs ≡ fields ++ (42 ∷ digits)) × AllByRecursion (λ b. is_field_byte b ≡ true) fields × Digits digits
 
 accept_digits : (xs : List ℕ) → run HighDigit xs ≡ Some End → Digits xs
-accept_digits [] led = let z : ◌≡◌ {A = ℕ} 0 1 = cc in absurd (omega arith)
+accept_digits [] led = absurd cc
 accept_digits (h ∷ bs) led =
     let next = bind_some (after HighDigit h) (λ n. run n bs) End led in
     let high = some_if (is_hex_digit h) LowDigit next.0 next.1 in
     low bs high.0 (rw high.1 at next.2)
   where
     low : (bs : List ℕ) → is_hex_digit h ≡ true → run LowDigit bs ≡ Some End → Digits (h ∷ bs)
-    low [] high led = let z : ◌≡◌ {A = ℕ} 0 1 = cc in absurd (omega arith)
+    low [] high led = absurd cc
     low (l ∷ cs) high led =
         let next = bind_some (after LowDigit l) (λ n. run n cs) End led in
         let test = some_if (is_hex_digit l) End next.0 next.1 in
@@ -36,7 +36,7 @@ accept_digits (h ∷ bs) led =
         end (c ∷ ds) high low led = none_some led
 
 accept_fields : (xs : List ℕ) → run Fields xs ≡ Some End → Tail xs
-accept_fields [] led = let z : ◌≡◌ {A = ℕ} 0 1 = cc in absurd (omega arith)
+accept_fields [] led = absurd cc
 accept_fields (b ∷ bs) led =
     let next = bind_some (after Fields b) (λ n. run n bs) End led in
     ⊎_elim
@@ -48,7 +48,7 @@ accept_fields (b ∷ bs) led =
     (some_either (is_field_byte b) (eqb b 42) Fields HighDigit next.0 next.1)
 
 accept_separator : (xs : List ℕ) → run Separator xs ≡ Some End → (tail : Tail xs) × CommaFirst tail.0
-accept_separator [] led = let z : ◌≡◌ {A = ℕ} 0 1 = cc in absurd (omega arith)
+accept_separator [] led = absurd cc
 accept_separator (b ∷ bs) led =
     let next = bind_some (after Separator b) (λ n. run n bs) End led in
     ⊎_elim
@@ -66,7 +66,7 @@ Front left xs =
     (address : List ℕ) × (rest : List ℕ) × (xs ≡ address ++ rest) × (length address ≡ suc left) × AllByRecursion (λ b. is_address_byte b ≡ true) address × (run Separator rest ≡ Some End)
 
 accept_address : (xs : List ℕ) (left : ℕ) → run (Address left) xs ≡ Some End → Front left xs
-accept_address [] left led = let z : ◌≡◌ {A = ℕ} 0 1 = cc in absurd (omega arith)
+accept_address [] left led = absurd cc
 accept_address (b ∷ bs) zero led =
     let next = bind_some (after (Address zero) b) (λ n. run n bs) End led in
     let test = some_if (is_address_byte b) Separator next.0 next.1 in
@@ -79,7 +79,7 @@ accept_address (b ∷ bs) (suc left) led =
     (b ∷ again.0, again.1, ap (λ ys. b ∷ ys) again.2, ap suc again.3, (test.0, again.4), again.5)
 
 pub accepted_shape : (xs : List ℕ) → run Dollar xs ≡ Some End → WellShaped xs
-accepted_shape [] led = let z : ◌≡◌ {A = ℕ} 0 1 = cc in absurd (omega arith)
+accepted_shape [] led = absurd cc
 accepted_shape (b ∷ bs) led =
     let next = bind_some (after Dollar b) (λ n. run n bs) End led in
     let test = some_if (eqb b 36) (Address 4) next.0 next.1 in

@@ -26,13 +26,13 @@ abbrev Stops : List ℕ → Type 0
 Stops xs = (e : Expect) (column c : ℕ) → column ≤ 81 → fault_from e column xs ≡ Some c → Found e column xs c
 
 not_ended : (e : Expect) (column c : ℕ) → end_fault e column ≡ Some c → (c ≡ column) × (run e [] ≡ Some End → ⊥)
-not_ended Dollar column c s = (sym (same_some s), λ r. let z : ◌≡◌ {A = ℕ} 0 1 = cc in omega arith)
-not_ended (Address left) column c s = (sym (same_some s), λ r. let z : ◌≡◌ {A = ℕ} 0 1 = cc in omega arith)
-not_ended Separator column c s = (sym (same_some s), λ r. let z : ◌≡◌ {A = ℕ} 0 1 = cc in omega arith)
-not_ended Fields column c s = (sym (same_some s), λ r. let z : ◌≡◌ {A = ℕ} 0 1 = cc in omega arith)
-not_ended HighDigit column c s = (sym (same_some s), λ r. let z : ◌≡◌ {A = ℕ} 0 1 = cc in omega arith)
-not_ended LowDigit column c s = (sym (same_some s), λ r. let z : ◌≡◌ {A = ℕ} 0 1 = cc in omega arith)
-not_ended End column c s = let z : ◌≡◌ {A = ℕ} 0 1 = cc in absurd (omega arith)
+not_ended Dollar column c s = (sym (same_some s), λ r. cc)
+not_ended (Address left) column c s = (sym (same_some s), λ r. cc)
+not_ended Separator column c s = (sym (same_some s), λ r. cc)
+not_ended Fields column c s = (sym (same_some s), λ r. cc)
+not_ended HighDigit column c s = (sym (same_some s), λ r. cc)
+not_ended LowDigit column c s = (sym (same_some s), λ r. cc)
+not_ended End column c s = absurd cc
 
 -- the scan stops at its first byte, or before one
 stopped : (e : Expect) (column : ℕ) (xs : List ℕ) (c : ℕ) → c ≡ column → column ≤ 81 → (0 < length xs → c ≤ 80 → run e (take 1 xs) ≡ None) → (0 ≡ length xs → run e xs ≡ Some End → ⊥) → Found e column xs c
@@ -76,8 +76,7 @@ led_begins xs e leads =
 begins_led : (xs : List ℕ) → Begins xs → run Dollar xs ≡ None → ⊥
 begins_led xs (rest, shape) none =
     let front = run_front xs rest Dollar End (shape_accepted (xs ++ rest) shape) in
-    let z : ◌≡◌ {A = ℕ} 0 1 = cc in
-    omega arith
+    cc
 
 pub first_wrong : (xs : List ℕ) (c : ℕ) → fault_from Dollar 1 xs ≡ Some c → FirstWrong xs c
 first_wrong xs c f =

@@ -148,18 +148,18 @@ address_wrong bytes column e = by (shape_fault bytes) refl (sum_right bytes) e
   where
     by : (o : Option ℕ) → shape_fault bytes ≡ o → (t : Bool) → address_at o t bytes ≡ Err (Shape column) → shape_fault bytes ≡ Some column
     by (Some c) f t e = f ∙ ap Some (let same = same_err e in cc)
-    by None f false e = let z : ◌≡◌ {A = ℕ} 0 1 = cc in absurd (omega arith)
+    by None f false e = absurd cc
     by None f true e = never_shape e
 
 -- no other part of the reader refuses a shape
 
 needed_shape : {A : Type 0} (o : Option A) (column : ℕ) (next : A → Result ℤ SentenceError) (c : ℕ) → needed o column next ≡ Err (Shape c) → (y : A) × (next y ≡ Err (Shape c))
-needed_shape None column next c e = let z : ◌≡◌ {A = ℕ} 0 1 = cc in absurd (omega arith)
+needed_shape None column next c e = absurd cc
 needed_shape (Some y) column next c e = (y, e)
 
 unless_shape : (o : Option ℕ) (x : ℤ) (c : ℕ) → unless_extra o x ≡ Err (Shape c) → ⊥
 unless_shape None x c e = never_shape e
-unless_shape (Some column) x c e = let z : ◌≡◌ {A = ℕ} 0 1 = cc in omega arith
+unless_shape (Some column) x c e = cc
 
 clearance_shape : (column : ℕ) (fields : List ℕ) (c : ℕ) → clearance_of column fields ≡ Err (Shape c) → ⊥
 clearance_shape column fields c e =
@@ -177,7 +177,7 @@ reading_wrong bytes column e = by (address_of bytes) e
     clear sounder (Ok clearance) c e = never_shape e
 
     sound : (o : Option (List ℕ)) → depth_at o (fields_of bytes) ≡ Err (Shape column) → ⊥
-    sound None e = let z : ◌≡◌ {A = ℕ} 0 1 = cc in omega arith
+    sound None e = cc
     sound (Some sounder) e = clear sounder (clearance_of 7 (fields_of bytes)) refl e
 
     by : (r : Result Address SentenceError) → reading_at r (fields_of bytes) ≡ Err (Shape column) → r ≡ Err (Shape column)

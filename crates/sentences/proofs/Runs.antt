@@ -14,7 +14,7 @@ run e [] = Some e
 run e (b ∷ bs) = bind (after e b) (λ next. run next bs)
 
 pub bind_some : {A B : Type 0} (o : Option A) (f : A → Option B) (y : B) → bind o f ≡ Some y → (x : A) × (o ≡ Some x) × (f x ≡ Some y)
-bind_some None f y e = let z : ◌≡◌ {A = ℕ} 0 1 = cc in absurd (omega arith)
+bind_some None f y e = absurd cc
 bind_some (Some x) f y e = (x, refl, e)
 
 -- one byte of a run

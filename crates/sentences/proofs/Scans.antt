@@ -18,7 +18,7 @@ module _ (e : Expect) (column b : ℕ) (bs : List ℕ) where
   byte_right next under right = cond-false (ltb 80 column) _ _ (le-ltb 80 column under) ∙ rw right
 
 never_some : {P : Type 0} (n : ℕ) → ◌≡◌ {A = Option ℕ} (Some n) None → P
-never_some n e = let z : ◌≡◌ {A = ℕ} 0 1 = cc in absurd (omega arith)
+never_some n e = absurd cc
 
 -- the bytes up to column 81 decide
 pub fault_decided : (xs : List ℕ) (e : Expect) (column n : ℕ) → column + n ≡ 81 → fault_from e column (take (suc n) xs) ≡ fault_from e column xs

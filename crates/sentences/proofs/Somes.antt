@@ -1,9 +1,9 @@
 -- What an answer says that is there.
-use Rattle.std.proofs.Common.{◌≡◌, ℕ, Bool, true, false, cond, ◌⊎◌, Some, None, Ok, Err, Option, Result, sym, refl, ap, inl, inr, arith}
+use Rattle.std.proofs.Common.{◌≡◌, Bool, true, false, cond, ◌⊎◌, Some, None, Ok, Err, Option, Result, sym, refl, ap, inl, inr}
 use Rattle.std.specs.Option.{ok_or}
 
 pub none_some : {P A : Type 0} {x : A} → ◌≡◌ {A = Option A} None (Some x) → P
-none_some e = let z : ◌≡◌ {A = ℕ} 0 1 = cc in absurd (omega arith)
+none_some e = absurd cc
 
 pub same_some : {A : Type 0} {x y : A} → ◌≡◌ {A = Option A} (Some x) (Some y) → x ≡ y
 same_some e = cc
@@ -18,7 +18,7 @@ some_either true u x x' y e = inl (refl, cc)
 some_either false u x x' y e = inr (some_if u x' y e)
 
 pub err_ok : {P T E : Type 0} {e : E} {x : T} → ◌≡◌ {A = Result T E} (Err e) (Ok x) → P
-err_ok e = let z : ◌≡◌ {A = ℕ} 0 1 = cc in absurd (omega arith)
+err_ok e = absurd cc
 
 pub same_ok : {T E : Type 0} {x y : T} → ◌≡◌ {A = Result T E} (Ok x) (Ok y) → x ≡ y
 same_ok e = cc

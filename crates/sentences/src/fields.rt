@@ -18,7 +18,8 @@ fn digit_value(byte: u8) -> u32
     byte.saturating_sub(b'0') as u32
 }
 
-// One to four digits as a number.
+// One to four digits as a number. A fold over them is not proved: nothing bounds the number so far,
+// so that ten times it might not fit.
 fn decimal(digits: &[u8]) -> Option<u32>
     ensures value { result ≡ decimal_few digits.now }
     ensures bound { IfSome result (λ n. n ≤ 230000) }

@@ -99,8 +99,7 @@ impl<'a> Shaped<'a> {
         ensures { result ≡ unless_fault (shape_fault bytes.now) bytes.now }
     {
         let mut expect = Expect::Dollar;
-        for (i, byte) in bytes.iter().enumerate() {
-            let column = i + 1;
+        for (column, byte) in (1..).zip(bytes) {
             if column > LONGEST {
                 return Err(SentenceError::Shape { column });
             }
