@@ -1,9 +1,9 @@
 -- Fields give a clearance exactly if they are a depth, an offset and at most one field more.
-use Rattle.std.proofs.Common.{◌≡◌, ℕ, ◌+◌, Bool, true, false, cond, eqb, leb, List, [], ◌∷◌, ◌++◌, length, take, drop, ℤ, pos, ◌-ℤ◌, Some, None, Ok, Err, Option, Result, sym, refl, ap, ◌∙◌, inl, inr, append-nil, arith}
+use Rattle.std.proofs.Common.{◌≡◌, ℕ, ◌+◌, Bool, true, false, cond, eqb, List, [], ◌∷◌, ◌++◌, length, take, drop, ℤ, pos, ◌-ℤ◌, Some, None, Ok, Err, Option, Result, sym, refl, ap, ◌∙◌, inl, inr, append-nil, arith}
 use Rattle.std.specs.List.{prefix_len, AllByRecursion}
 use Rattle.std.proofs.ByRecursion.{All-weaker, All-append}
 use Rattle.std.proofs.lemmas.List.{take_at, drop_at, take-append-drop, nil_from_length}
-use Rattle.std.proofs.lemmas.Bool.{eqb-true, eqb-false, ne_eqb, not-true, not-false, not_from_false, and_parts, leb-true}
+use Rattle.std.proofs.lemmas.Bool.{eqb-true, eqb-false, ne_eqb, not-true, not-false, not_from_false}
 use Rattle.sentences.specs.Bytes.{is_digit}
 use Rattle.sentences.specs.Fields.{not_comma, next_field, metres_of, keel_of, fourth_at, extra_of, needed, unless_extra, clearance_of}
 use Rattle.sentences.specs.Format.{CommaFirst, pointed, Metres, OneField}
@@ -11,7 +11,7 @@ use Rattle.sentences.specs.declared.error.SentenceError.{SentenceError}
 use Rattle.sentences.specs.declared.error.SentenceError.TheVariants.{NoClearance}
 use Rattle.sentences.proofs.Leading.{leading_front, leading_passes, leading_stops, fails_leading, Fails}
 use Rattle.sentences.proofs.Numbers.{metres_right, right_metres}
-use Rattle.sentences.proofs.Somes.{none_some, same_some, err_ok, same_ok}
+use Rattle.sentences.proofs.Somes.{none_some, same_some, err_ok}
 
 abbrev InField : List ℕ → Type 0
 InField xs = AllByRecursion (λ b. not_comma b ≡ true) xs
@@ -45,9 +45,7 @@ right_split c text rest all first =
 -- a number has no comma
 
 digit_not_comma : (b : ℕ) → is_digit b ≡ true → not_comma b ≡ true
-digit_not_comma b d =
-    let low = and_parts (leb 48 b) (leb b 57) d in
-    not_from_false (eqb b 44) (ne_eqb b 44 (λ e. omega (arith, leb-true 48 b low.0)))
+digit_not_comma b d = grind arith
 
 pointed_not_comma : (fraction : List ℕ) → AllByRecursion (λ b. is_digit b ≡ true) fraction → InField (pointed fraction)
 pointed_not_comma [] all = tt
@@ -107,8 +105,7 @@ needed_ok None column next x e = err_ok e
 needed_ok (Some y) column next x e = (y, refl, e)
 
 unless_ok : (o : Option ℕ) (z x : ℤ) → unless_extra o z ≡ Ok x → (o ≡ None) × (x ≡ z)
-unless_ok None z x e = (refl, sym (same_ok e))
-unless_ok (Some column) z x e = err_ok e
+unless_ok o z x e = grind arith
 
 pub clearance_right : (column : ℕ) (fields : List ℕ) (x : ℤ) → CommaFirst fields → clearance_of column fields ≡ Ok x → Depth fields x
 clearance_right column fields x first e =
@@ -140,27 +137,15 @@ past_offset at deep offset =
 
 -- the clearance once depth and offset are cut off and the depth is a number
 pub clearance_past : (column : ℕ) (fields text rest : List ℕ) (deep : ℕ) (text' rest' : List ℕ) → next_field fields ≡ Some (text, rest) → metres_of text ≡ Some deep → next_field rest ≡ Some (text', rest') → clearance_of column fields ≡ past_offset (column + 1 + length text) deep (text', rest')
-clearance_past column fields text rest deep text' rest' one metres two =
-    let at : ℕ = column + 1 + length text in
-    ap (λ o. needed o column (λ depth. needed (metres_of depth.0) (column + 1) (λ n. needed (next_field depth.1) (column + 1 + length depth.0) (past_offset (column + 1 + length depth.0) n)))) one
-    ∙ ap (λ o. needed o (column + 1) (λ n. needed (next_field rest) at (past_offset at n))) metres
-    ∙ ap (λ o. needed o at (past_offset at deep)) two
+clearance_past column fields text rest deep text' rest' one metres two = grind arith
 
 -- the offset is no number behind a minus
 pub offset_refused : (at deep column : ℕ) (text rest : List ℕ) → keel_of text ≡ None → column ≡ at + 1 → past_offset at deep (text, rest) ≡ Err (NoClearance column)
-offset_refused at deep column text rest none place =
-    ap (λ o. needed o (at + 1) (λ keel. unless_extra (extra_of (at + 1 + length text) rest) (pos deep -ℤ pos keel))) none ∙ ap (λ n. Err (NoClearance n)) (sym place)
+offset_refused at deep column text rest none place = grind arith
 
 -- the offset is one, and no fourth field follows
 pub offset_read : (at deep keel column : ℕ) (text rest : List ℕ) → keel_of text ≡ Some keel → column ≡ at + 1 + length text → ◌≡◌ {A = Result (Unit {0}) SentenceError} (Ok tt) (unless_extra (extra_of column rest) tt) → past_offset at deep (text, rest) ≡ Ok (pos deep -ℤ pos keel)
-offset_read at deep keel column text rest some place end =
-    ap (λ o. needed o (at + 1) (λ n. unless_extra (extra_of (at + 1 + length text) rest) (pos deep -ℤ pos n))) some
-    ∙ ap (λ n. unless_extra (extra_of n rest) (pos deep -ℤ pos keel)) (sym place)
-    ∙ ap (λ o. unless_extra o (pos deep -ℤ pos keel)) (none (extra_of column rest) end)
-  where
-    none : (o : Option ℕ) → ◌≡◌ {A = Result (Unit {0}) SentenceError} (Ok tt) (unless_extra o tt) → o ≡ None
-    none None e = refl
-    none (Some n) e = err_ok (sym e)
+offset_read at deep keel column text rest some place end = grind arith
 
 pub right_clearance : (column : ℕ) (fields : List ℕ) (x : ℤ) → Depth fields x → clearance_of column fields ≡ Ok x
 right_clearance column fields x d =

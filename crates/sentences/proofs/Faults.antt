@@ -5,7 +5,7 @@ use Rattle.std.proofs.lemmas.Bool.{cases_lt, cases_order}
 use Rattle.sentences.specs.Format.{Shaped, WellShaped, Begins, FirstWrong}
 use Rattle.sentences.specs.Shape.{after, end_fault, fault_from}
 use Rattle.sentences.specs.declared.shape.Expect.{Expect}
-use Rattle.sentences.specs.declared.shape.Expect.TheVariants.{Dollar, Address, Separator, Fields, HighDigit, LowDigit, End}
+use Rattle.sentences.specs.declared.shape.Expect.TheVariants.{Dollar, End}
 use Rattle.sentences.proofs.Accepts.{accepted_shape, shape_accepted}
 use Rattle.sentences.proofs.Runs.{run, run_step, run_wrong, run_append, run_front, ending, ending_right}
 use Rattle.sentences.proofs.Somes.{same_some}
@@ -26,13 +26,7 @@ abbrev Stops : List ℕ → Type 0
 Stops xs = (e : Expect) (column c : ℕ) → column ≤ 81 → fault_from e column xs ≡ Some c → Found e column xs c
 
 not_ended : (e : Expect) (column c : ℕ) → end_fault e column ≡ Some c → (c ≡ column) × (run e [] ≡ Some End → ⊥)
-not_ended Dollar column c s = (sym (same_some s), λ r. cc)
-not_ended (Address left) column c s = (sym (same_some s), λ r. cc)
-not_ended Separator column c s = (sym (same_some s), λ r. cc)
-not_ended Fields column c s = (sym (same_some s), λ r. cc)
-not_ended HighDigit column c s = (sym (same_some s), λ r. cc)
-not_ended LowDigit column c s = (sym (same_some s), λ r. cc)
-not_ended End column c s = absurd cc
+not_ended e column c s = grind arith
 
 -- the scan stops at its first byte, or before one
 stopped : (e : Expect) (column : ℕ) (xs : List ℕ) (c : ℕ) → c ≡ column → column ≤ 81 → (0 < length xs → c ≤ 80 → run e (take 1 xs) ≡ None) → (0 ≡ length xs → run e xs ≡ Some End → ⊥) → Found e column xs c

@@ -1,7 +1,7 @@
 -- An address or a reading is read exactly if the bytes are such a sentence.
-use Rattle.std.proofs.Common.{◌≡◌, ℕ, ◌+◌, ◌-◌, ◌/◌, Bool, true, false, ◌&&◌, eqb, List, [], ◌∷◌, ◌++◌, length, get_or, ℤ, Some, None, Ok, Err, Option, Result, sym, refl, ap, ◌∙◌, subst, arith}
-use Rattle.std.proofs.lemmas.Bool.{eqb-true, eq-eqb, and_parts, and_from}
-use Rattle.sentences.specs.Bytes.{hex_digit, hex_text, sum_of}
+use Rattle.std.proofs.Common.{◌≡◌, ℕ, ◌+◌, ◌-◌, true, ◌&&◌, eqb, List, [], ◌∷◌, ◌++◌, length, get_or, ℤ, Some, None, Ok, Err, Option, Result, sym, refl, ap, ◌∙◌, subst, arith}
+use Rattle.std.proofs.lemmas.Bool.{eqb-true, and_parts}
+use Rattle.sentences.specs.Bytes.{hex_text, sum_of}
 use Rattle.sentences.specs.Fields.{next_field, metres_of, keel_of, needed, unless_extra, clearance_of}
 use Rattle.sentences.specs.Format.{Exactly, Shaped, Sentence, HasAddress, DepthSentence, FirstWrong}
 use Rattle.sentences.specs.Reader.{sentence_sum, sum_right, address_bytes, fields_of, address_at, address_of, sounder_of, with_clearance, depth_at, reading_at, reading_of}
@@ -14,27 +14,19 @@ use Rattle.sentences.proofs.Clearances.{Depth, clearance_right, right_clearance}
 use Rattle.sentences.proofs.Faults.{first_wrong, wrong_first, well_shaped, no_shape_fault}
 use Rattle.sentences.proofs.Places.{placed}
 use Rattle.sentences.proofs.Readings.{address_unshaped, reading_unshaped}
-use Rattle.sentences.proofs.Somes.{some_if, err_ok, same_ok, same_err}
+use Rattle.sentences.proofs.Somes.{some_if, err_ok, same_ok}
 
 -- the checksum
 
 sum_digits : (bytes : List ℕ) → sum_right bytes ≡ true → get_or bytes (length bytes - 2) 0 ∷ get_or bytes (length bytes - 1) 0 ∷ [] ≡ hex_text (sentence_sum bytes)
-sum_digits bytes right =
-    let both = and_parts _ _ right in
-    ap (λ x. x ∷ get_or bytes (length bytes - 1) 0 ∷ []) (eqb-true _ _ both.0) ∙ ap (λ x. hex_digit (sentence_sum bytes / 16) ∷ x ∷ []) (eqb-true _ _ both.1)
+sum_digits bytes right = grind arith
 
 digits_sum : (bytes : List ℕ) → get_or bytes (length bytes - 2) 0 ∷ get_or bytes (length bytes - 1) 0 ∷ [] ≡ hex_text (sentence_sum bytes) → sum_right bytes ≡ true
-digits_sum bytes same =
-    and_from _ _ (eq-eqb _ _ (ap (λ xs. get_or xs 0 0) same)) (eq-eqb _ _ (ap (λ xs. get_or xs 1 0) same))
+digits_sum bytes same = grind arith
 
 -- shape and sum make an address
 address_some : (bytes : List ℕ) (address : Address) → address_of bytes ≡ Ok address → (shape_fault bytes ≡ None) × (sum_right bytes ≡ true) × (address_bytes bytes ≡ address.bytes)
-address_some bytes address e = by (shape_fault bytes) refl (sum_right bytes) refl e
-  where
-    by : (o : Option ℕ) → shape_fault bytes ≡ o → (t : Bool) → sum_right bytes ≡ t → address_at o t bytes ≡ Ok address → (shape_fault bytes ≡ None) × (sum_right bytes ≡ true) × (address_bytes bytes ≡ address.bytes)
-    by (Some column) f t s e = err_ok e
-    by None f false s e = err_ok e
-    by None f true s e = (f, s, ap (λ a. a.bytes) (same_ok e))
+address_some bytes address e = grind arith
 
 address_right : (bytes : List ℕ) (address : Address) → address_of bytes ≡ Ok address → HasAddress bytes address.bytes
 address_right bytes address e =
@@ -144,12 +136,7 @@ never_shape : {P T : Type 0} {x : T} {c : ℕ} → ◌≡◌ {A = Result T Sente
 never_shape e = err_ok (sym e)
 
 address_wrong : (bytes : List ℕ) (column : ℕ) → address_of bytes ≡ Err (Shape column) → shape_fault bytes ≡ Some column
-address_wrong bytes column e = by (shape_fault bytes) refl (sum_right bytes) e
-  where
-    by : (o : Option ℕ) → shape_fault bytes ≡ o → (t : Bool) → address_at o t bytes ≡ Err (Shape column) → shape_fault bytes ≡ Some column
-    by (Some c) f t e = f ∙ ap Some (let same = same_err e in cc)
-    by None f false e = absurd cc
-    by None f true e = never_shape e
+address_wrong bytes column e = grind arith
 
 -- no other part of the reader refuses a shape
 
@@ -158,8 +145,7 @@ needed_shape None column next c e = absurd cc
 needed_shape (Some y) column next c e = (y, e)
 
 unless_shape : (o : Option ℕ) (x : ℤ) (c : ℕ) → unless_extra o x ≡ Err (Shape c) → ⊥
-unless_shape None x c e = never_shape e
-unless_shape (Some column) x c e = cc
+unless_shape o x c e = grind arith
 
 clearance_shape : (column : ℕ) (fields : List ℕ) (c : ℕ) → clearance_of column fields ≡ Err (Shape c) → ⊥
 clearance_shape column fields c e =
@@ -170,19 +156,7 @@ clearance_shape column fields c e =
     unless_shape _ _ c keel.1
 
 reading_wrong : (bytes : List ℕ) (column : ℕ) → reading_of bytes ≡ Err (Shape column) → address_of bytes ≡ Err (Shape column)
-reading_wrong bytes column e = by (address_of bytes) e
-  where
-    clear : (sounder : List ℕ) (r : Result ℤ SentenceError) → clearance_of 7 (fields_of bytes) ≡ r → with_clearance sounder r ≡ Err (Shape column) → ⊥
-    clear sounder (Err error) c e = clearance_shape 7 (fields_of bytes) column (c ∙ ap Err (same_err e))
-    clear sounder (Ok clearance) c e = never_shape e
-
-    sound : (o : Option (List ℕ)) → depth_at o (fields_of bytes) ≡ Err (Shape column) → ⊥
-    sound None e = cc
-    sound (Some sounder) e = clear sounder (clearance_of 7 (fields_of bytes)) refl e
-
-    by : (r : Result Address SentenceError) → reading_at r (fields_of bytes) ≡ Err (Shape column) → r ≡ Err (Shape column)
-    by (Err error) e = ap Err (same_err e)
-    by (Ok address) e = absurd (sound (sounder_of address.bytes) e)
+reading_wrong bytes column e = grind (arith, clearance_shape)
 
 -- the laws of the two readers, of what they answer
 

@@ -1,9 +1,9 @@
 -- A number in metres is read exactly if it is one.
-use Rattle.std.proofs.Common.{◌≡◌, ℕ, ◌+◌, ◌-◌, ◌*◌, ◌^◌, ◌≤◌, true, cond, ◌&&◌, eqb, List, [], ◌∷◌, ◌++◌, length, take, drop, Some, None, Option, sym, refl, ap, ◌∙◌, arith}
+use Rattle.std.proofs.Common.{◌≡◌, ℕ, ◌+◌, ◌-◌, ◌*◌, ◌^◌, ◌≤◌, true, ◌&&◌, eqb, List, [], ◌∷◌, ◌++◌, length, take, drop, Some, None, Option, sym, refl, ap, ◌∙◌, arith}
 use Rattle.std.specs.Option.{option_map}
 use Rattle.std.specs.List.{prefix_len, AllByRecursion}
 use Rattle.std.proofs.lemmas.List.{take_at, drop_at, take-append-drop}
-use Rattle.std.proofs.lemmas.Bool.{and_parts, and_from, eqb-true}
+use Rattle.std.proofs.lemmas.Bool.{and_parts, eqb-true}
 use Rattle.sentences.specs.Bytes.{is_digit}
 use Rattle.sentences.specs.Fields.{decimal_few, hundredths_of, metres_of}
 use Rattle.sentences.specs.Format.{decimal_of, pointed, Metres}
@@ -11,20 +11,10 @@ use Rattle.sentences.proofs.Leading.{leading_front, leading_passes}
 use Rattle.sentences.proofs.Somes.{same_some, some_if, none_some}
 
 few_right : (ds : List ℕ) (n : ℕ) → decimal_few ds ≡ Some n → (1 ≤ length ds) × (length ds ≤ 4) × (n ≡ decimal_of ds)
-few_right [] n e = none_some e
-few_right (a ∷ []) n e = let is = same_some e in (omega arith, omega arith, omega arith)
-few_right (a ∷ b ∷ []) n e = let is = same_some e in (omega arith, omega arith, omega arith)
-few_right (a ∷ b ∷ c ∷ []) n e = let is = same_some e in (omega arith, omega arith, omega arith)
-few_right (a ∷ b ∷ c ∷ d ∷ []) n e = let is = same_some e in (omega arith, omega arith, omega arith)
-few_right (a ∷ b ∷ c ∷ d ∷ f ∷ more) n e = none_some e
+few_right ds n e = grind arith
 
 right_few : (ds : List ℕ) → 1 ≤ length ds → length ds ≤ 4 → decimal_few ds ≡ Some (decimal_of ds)
-right_few [] one four = absurd (omega arith)
-right_few (a ∷ []) one four = ap Some (omega arith)
-right_few (a ∷ b ∷ []) one four = ap Some (omega arith)
-right_few (a ∷ b ∷ c ∷ []) one four = ap Some (omega arith)
-right_few (a ∷ b ∷ c ∷ d ∷ []) one four = ap Some (omega arith)
-right_few (a ∷ b ∷ c ∷ d ∷ f ∷ more) one four = absurd (omega arith)
+right_few ds one four = grind arith
 
 -- what hundredths are made of
 abbrev Fraction : List ℕ → ℕ → Type 0
@@ -46,12 +36,7 @@ hundredths_right (p ∷ a ∷ b ∷ []) n e =
 hundredths_right (p ∷ a ∷ b ∷ c ∷ more) n e = none_some e
 
 right_hundredths : (fraction : List ℕ) → AllByRecursion (λ b. is_digit b ≡ true) fraction → length fraction ≤ 2 → hundredths_of (pointed fraction) ≡ Some (decimal_of fraction * 10 ^ (2 - length fraction))
-right_hundredths [] all two = refl
-right_hundredths (a ∷ []) all two =
-    ap (λ t. cond t (Some (10 * (a - 48))) None) all.0 ∙ ap Some (omega arith)
-right_hundredths (a ∷ b ∷ []) all two =
-    ap (λ t. cond t (Some (10 * (a - 48) + (b - 48))) None) (and_from (is_digit a) (is_digit b) all.0 all.1.0) ∙ ap Some (omega arith)
-right_hundredths (a ∷ b ∷ c ∷ more) all two = absurd (omega arith)
+right_hundredths fraction all two = grind arith
 
 -- the whole metres and the hundredths give the centimetres
 abbrev sum_up : Option ℕ → Option ℕ → Option ℕ

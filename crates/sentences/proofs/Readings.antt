@@ -1,17 +1,16 @@
 -- A reading, from the answers that it is made of.
-use Rattle.std.proofs.Common.{◌≡◌, ℕ, true, List, Some, None, Err, ap, ◌∙◌}
-use Rattle.sentences.specs.Reader.{sum_right, address_bytes, address_at, address_of, sounder_of, fields_of, depth_at, reading_at, reading_of}
+use Rattle.std.proofs.Common.{◌≡◌, ℕ, true, List, Some, None, Err, arith}
+use Rattle.sentences.specs.Reader.{sum_right, address_bytes, address_of, sounder_of, fields_of, depth_at, reading_of}
 use Rattle.sentences.specs.Shape.{shape_fault}
 use Rattle.sentences.specs.declared.error.SentenceError.TheVariants.{Shape}
 
 -- once shape and sum are right, the address and the fields decide
 pub reading_right : (xs : List ℕ) → shape_fault xs ≡ None → sum_right xs ≡ true → reading_of xs ≡ depth_at (sounder_of (address_bytes xs)) (fields_of xs)
-reading_right xs shape sum =
-    ap (λ o. reading_at (address_at o (sum_right xs) xs) (fields_of xs)) shape ∙ ap (λ t. reading_at (address_at None t xs) (fields_of xs)) sum
+reading_right xs shape sum = grind arith
 
 -- a wrong shape is all that is said of bytes
 pub address_unshaped : (xs : List ℕ) (column : ℕ) → shape_fault xs ≡ Some column → address_of xs ≡ Err (Shape column)
-address_unshaped xs column fault = ap (λ o. address_at o (sum_right xs) xs) fault
+address_unshaped xs column fault = grind arith
 
 pub reading_unshaped : (xs : List ℕ) (column : ℕ) → shape_fault xs ≡ Some column → reading_of xs ≡ Err (Shape column)
-reading_unshaped xs column fault = ap (λ r. reading_at r (fields_of xs)) (address_unshaped xs column fault)
+reading_unshaped xs column fault = grind arith

@@ -1,6 +1,5 @@
 -- Where a run of bytes leads, from what is expected first.
 use Rattle.std.proofs.Common.{◌≡◌, ℕ, zero, suc, ◌-◌, cond, eqb, List, [], ◌∷◌, ◌++◌, replicate, Some, None, Option, refl, ap, ◌∙◌, arith}
-use Rattle.std.proofs.lemmas.Bool.{ne_eqb, cond-false}
 use Rattle.sentences.specs.Shape.{after}
 use Rattle.sentences.specs.declared.shape.Expect.{Expect}
 use Rattle.sentences.specs.declared.shape.Expect.TheVariants.{Dollar, Address, Separator, Fields, HighDigit, LowDigit, End}
@@ -19,10 +18,10 @@ bind_some (Some x) f y e = (x, refl, e)
 
 -- one byte of a run
 pub run_step : (e next : Expect) (b : ℕ) (bs : List ℕ) → after e b ≡ Some next → run e (b ∷ bs) ≡ run next bs
-run_step e next b bs h = ap (λ o. bind o (λ n. run n bs)) h
+run_step e next b bs h = grind arith
 
 pub run_wrong : (e : Expect) (b : ℕ) (bs : List ℕ) → after e b ≡ None → run e (b ∷ bs) ≡ None
-run_wrong e b bs h = ap (λ o. bind o (λ n. run n bs)) h
+run_wrong e b bs h = grind arith
 
 -- one run after another
 pub run_append : (xs ys : List ℕ) (e mid : Expect) → run e xs ≡ Some mid → run e (xs ++ ys) ≡ run mid ys
@@ -51,8 +50,7 @@ ending End = []
 
 -- the address goes on while bytes of it are to come
 pub address_more : (left : ℕ) → cond (eqb (suc left) 0) Separator (Address (suc left - 1)) ≡ Address left
-address_more left =
-    cond-false (eqb (suc left) 0) Separator (Address (suc left - 1)) (ne_eqb (suc left) 0 (λ e. omega arith)) ∙ ap Address (omega arith)
+address_more left = grind arith
 
 pub ending_address : (left : ℕ) → run (Address left) (replicate left 65 ++ (65 ∷ 42 ∷ 48 ∷ 48 ∷ [])) ≡ Some End
 ending_address zero = refl

@@ -3,7 +3,7 @@ use Rattle.std.proofs.Common.{◌≡◌, ℕ, zero, suc, ◌+◌, ◌<◌, ◌�
 use Rattle.std.proofs.lemmas.Bool.{cases_lt, lt-ltb, le-ltb, cond-true, cond-false}
 use Rattle.sentences.specs.Shape.{after, end_fault, fault_from}
 use Rattle.sentences.specs.declared.shape.Expect.{Expect}
-use Rattle.sentences.specs.declared.shape.Expect.TheVariants.{Dollar, Address, Separator, Fields, HighDigit, LowDigit, End}
+use Rattle.sentences.specs.declared.shape.Expect.TheVariants.{End}
 use Rattle.sentences.proofs.Runs.{run, bind_some, run_step}
 
 module _ (e : Expect) (column b : ℕ) (bs : List ℕ) where
@@ -38,13 +38,7 @@ abbrev Passes : List ℕ → Type 0
 Passes xs = (e : Expect) (column : ℕ) → column ≤ 81 → fault_from e column xs ≡ None → (run e xs ≡ Some End) × (column + length xs ≤ 81)
 
 no_end_fault : (e : Expect) (column : ℕ) → end_fault e column ≡ None → e ≡ End
-no_end_fault Dollar column f = never_some column f
-no_end_fault (Address left) column f = never_some column f
-no_end_fault Separator column f = never_some column f
-no_end_fault Fields column f = never_some column f
-no_end_fault HighDigit column f = never_some column f
-no_end_fault LowDigit column f = never_some column f
-no_end_fault End column f = refl
+no_end_fault e column f = grind arith
 
 pub no_fault : (xs : List ℕ) → Passes xs
 no_fault [] e column low f = (ap Some (no_end_fault e column f), omega arith)

@@ -1,5 +1,5 @@
 -- What an answer says that is there.
-use Rattle.std.proofs.Common.{◌≡◌, Bool, true, false, cond, ◌⊎◌, Some, None, Ok, Err, Option, Result, sym, refl, ap, inl, inr}
+use Rattle.std.proofs.Common.{◌≡◌, Bool, true, cond, ◌⊎◌, Some, None, Ok, Err, Option, Result, arith}
 use Rattle.std.specs.Option.{ok_or}
 
 pub none_some : {P A : Type 0} {x : A} → ◌≡◌ {A = Option A} None (Some x) → P
@@ -10,12 +10,10 @@ same_some e = cc
 
 -- a test that lets something through
 pub some_if : {A : Type 0} (t : Bool) (x y : A) → cond t (Some x) None ≡ Some y → (t ≡ true) × (y ≡ x)
-some_if true x y e = (refl, cc)
-some_if false x y e = none_some e
+some_if t x y e = grind arith
 
 pub some_either : {A : Type 0} (t u : Bool) (x x' y : A) → cond t (Some x) (cond u (Some x') None) ≡ Some y → ((t ≡ true) × (y ≡ x)) ⊎ ((u ≡ true) × (y ≡ x'))
-some_either true u x x' y e = inl (refl, cc)
-some_either false u x x' y e = inr (some_if u x' y e)
+some_either t u x x' y e = grind arith
 
 pub err_ok : {P T E : Type 0} {e : E} {x : T} → ◌≡◌ {A = Result T E} (Err e) (Ok x) → P
 err_ok e = absurd cc
@@ -28,9 +26,7 @@ same_err e = cc
 
 -- what `ok_or` answers
 pub some_of_ok : {T E : Type 0} (o : Option T) (e : E) (x : T) → Ok x ≡ ok_or o e → o ≡ Some x
-some_of_ok None e x h = err_ok (sym h)
-some_of_ok (Some y) e x h = ap Some (same_ok (sym h))
+some_of_ok o e x h = grind arith
 
 pub none_of_err : {T E : Type 0} (o : Option T) (e f : E) → Err f ≡ ok_or o e → (o ≡ None) × (f ≡ e)
-none_of_err None e f h = (refl, same_err h)
-none_of_err (Some y) e f h = err_ok h
+none_of_err o e f h = grind arith

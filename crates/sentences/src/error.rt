@@ -38,10 +38,10 @@ impl SentenceError {
         ensures { result ≡ column_of self.now }
     {
         match self {
-            SentenceError::Shape { column } => *column,
-            SentenceError::Checksum { column } => *column,
+            SentenceError::Shape { column }
+            | SentenceError::Checksum { column }
+            | SentenceError::NoClearance { column } => *column,
             SentenceError::NotDepth => 2,
-            SentenceError::NoClearance { column } => *column,
         }
     }
 }

@@ -109,7 +109,7 @@ impl<'a> Shaped<'a> {
         Ok(Shaped { bytes })
     }
 
-    // Whether the last two bytes write the checksum of what stands between `$` and `*`.
+    // Refuses another sum than the last two bytes write, of what stands between `$` and `*`.
     pub(crate) fn check_sum(&self) -> Result<(), SentenceError>
         ensures { result ≡ sum_checked self.now }
     {
