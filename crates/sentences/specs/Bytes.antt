@@ -1,7 +1,7 @@
 -- The kinds of byte that a sentence is made of.
 -- A byte is a number: 33 is `!`, 36 `$`, 42 `*`, 44 the comma, 45 the minus, 46 the point, 48 to 57 the digits,
 -- 65 to 90 the capitals.
-use Rattle.std.specs.Prelude.{ℕ, ◌+◌, ◌/◌, ◌%◌, Bool, cond, not, ◌&&◌, ◌||◌, List, [], ◌∷◌, fold, ◌==◌, bit_xor, nat_le, nat_lt}
+use Rattle.std.specs.Prelude.{ℕ, ◌+◌, ◌/◌, ◌%◌, Bool, if◌then◌else◌, not, ◌&&◌, ◌||◌, List, [], ◌∷◌, fold, ◌==◌, bit_xor, nat_le, nat_lt}
 
 -- a decimal digit
 abbrev pub is_digit : ℕ → Bool
@@ -21,7 +21,7 @@ is_hex_digit b = is_digit b || (nat_le 65 b && nat_le b 70)
 
 -- the hexadecimal digit of a number below 16
 abbrev pub hex_digit : ℕ → ℕ
-hex_digit n = cond (nat_lt n 10) (48 + n) (55 + n)
+hex_digit n = if nat_lt n 10 then 48 + n else 55 + n
 
 -- a byte in two hexadecimal digits
 abbrev pub hex_text : ℕ → List ℕ

@@ -1,6 +1,6 @@
 -- The fields of a depth sentence, and the clearance that they give.
 -- Of the bytes, 44 is the comma, 45 the minus, 46 the point, 48 the digit 0.
-use Rattle.std.specs.Prelude.{ℕ, ◌+◌, ◌-◌, ◌*◌, Bool, cond, not, ◌&&◌, List, [], ◌∷◌, length, take, drop, ℤ, pos, ◌-ℤ◌, Some, None, Ok, Err, Option, Result, ◌==◌}
+use Rattle.std.specs.Prelude.{ℕ, ◌+◌, ◌-◌, ◌*◌, Bool, if◌then◌else◌, not, ◌&&◌, List, [], ◌∷◌, length, take, drop, ℤ, pos, ◌-ℤ◌, Some, None, Ok, Err, Option, Result, ◌==◌}
 use Rattle.std.specs.Option.{option_map}
 use Rattle.std.specs.List.{prefix_len}
 use Rattle.sentences.specs.Bytes.{is_digit}
@@ -29,8 +29,8 @@ decimal_few (a ∷ b ∷ c ∷ d ∷ e ∷ more) = None
 abbrev pub hundredths_of : List ℕ → Option ℕ
 hundredths_of [] = Some 0
 hundredths_of (p ∷ []) = None
-hundredths_of (p ∷ a ∷ []) = cond (p == 46 && is_digit a) (Some (10 * (a - 48))) None
-hundredths_of (p ∷ a ∷ b ∷ []) = cond (p == 46 && (is_digit a && is_digit b)) (Some (10 * (a - 48) + (b - 48))) None
+hundredths_of (p ∷ a ∷ []) = if p == 46 && is_digit a then Some (10 * (a - 48)) else None
+hundredths_of (p ∷ a ∷ b ∷ []) = if p == 46 && (is_digit a && is_digit b) then Some (10 * (a - 48) + (b - 48)) else None
 hundredths_of (p ∷ a ∷ b ∷ c ∷ more) = None
 
 -- a number in metres as centimetres: one to four digits, and what may follow them
@@ -41,12 +41,12 @@ metres_of text =
 -- how far the keel is below the transducer: a minus and a number in metres
 abbrev pub keel_of : List ℕ → Option ℕ
 keel_of [] = None
-keel_of (sign ∷ text) = cond (sign == 45) (metres_of text) None
+keel_of (sign ∷ text) = if sign == 45 then metres_of text else None
 
 -- the column of a fourth field, where one follows a third whose comma stands at `column`
 abbrev pub fourth_at : ℕ → Option (List ℕ × List ℕ) → Option ℕ
 fourth_at column None = None
-fourth_at column (Some third) = cond (length third.1 == 0) None (Some (column + 2 + length third.0))
+fourth_at column (Some third) = if length third.1 == 0 then None else Some (column + 2 + length third.0)
 
 -- the same in what follows the offset, from `column` on
 abbrev pub extra_of : ℕ → List ℕ → Option ℕ

@@ -1,5 +1,5 @@
 -- What is read of bytes: the address of a sentence, or the reading of a depth sentence, or why not.
-use Rattle.std.specs.Prelude.{ℕ, ◌-◌, ◌/◌, ◌%◌, Bool, true, false, cond, ◌&&◌, List, [], ◌∷◌, length, take, drop, ℤ, Some, None, Ok, Err, Option, Result, ◌==◌, slice_index}
+use Rattle.std.specs.Prelude.{ℕ, ◌-◌, ◌/◌, ◌%◌, Bool, true, false, if◌then◌else◌, ◌&&◌, List, [], ◌∷◌, length, take, drop, ℤ, Some, None, Ok, Err, Option, Result, ◌==◌, slice_index}
 use Rattle.sentences.specs.Bytes.{hex_digit, sum_of}
 use Rattle.sentences.specs.Fields.{clearance_of}
 use Rattle.sentences.specs.Shape.{shape_fault}
@@ -19,7 +19,7 @@ sum_right bytes =
 
 -- refuses a sum that the last two bytes do not write, at the first of them
 abbrev pub sum_checked : List ℕ → Result (Unit {0}) SentenceError
-sum_checked bytes = cond (sum_right bytes) (Ok tt) (Err (Checksum (length bytes - 1)))
+sum_checked bytes = if sum_right bytes then Ok tt else Err (Checksum (length bytes - 1))
 
 -- the five bytes after the `$`
 abbrev pub address_bytes : List ℕ → List ℕ
@@ -42,7 +42,7 @@ address_of bytes = address_at (shape_fault bytes) (sum_right bytes) bytes
 -- the sounder, the first two bytes of an address that ends in DPT (68, 80, 84)
 abbrev pub sounder_of : List ℕ → Option (List ℕ)
 sounder_of address =
-    cond (slice_index address 2 == 68 && (slice_index address 3 == 80 && slice_index address 4 == 84)) (Some (slice_index address 0 ∷ slice_index address 1 ∷ [])) None
+    if slice_index address 2 == 68 && (slice_index address 3 == 80 && slice_index address 4 == 84) then Some (slice_index address 0 ∷ slice_index address 1 ∷ []) else None
 
 -- a reading, of a sounder and a clearance
 abbrev pub with_clearance : List ℕ → Result ℤ SentenceError → Result Reading SentenceError

@@ -1,5 +1,5 @@
 -- Where a sentence's shape goes wrong, byte by byte. Of the bytes, 36 is `$`, 42 `*`, 44 the comma.
-use Rattle.std.specs.Prelude.{ℕ, ◌+◌, ◌-◌, cond, List, [], ◌∷◌, Some, None, Option, Ok, Err, Result, ◌==◌, nat_lt}
+use Rattle.std.specs.Prelude.{ℕ, ◌+◌, ◌-◌, if◌then◌else◌, List, [], ◌∷◌, Some, None, Option, Ok, Err, Result, ◌==◌, nat_lt}
 use Rattle.sentences.specs.Bytes.{is_address_byte, is_field_byte, is_hex_digit}
 use Rattle.sentences.specs.declared.error.SentenceError.{SentenceError}
 use Rattle.sentences.specs.declared.error.SentenceError.TheVariants.{Shape}
@@ -8,12 +8,12 @@ use Rattle.sentences.specs.declared.shape.Expect.TheVariants.{Dollar, Address, S
 
 -- what has to follow once `b` came where `e` was expected; nothing where `b` is wrong there
 abbrev pub after : Expect → ℕ → Option Expect
-after Dollar b = cond (b == 36) (Some (Address 4)) None
-after (Address left) b = cond (is_address_byte b) (Some (cond (left == 0) Separator (Address (left - 1)))) None
-after Separator b = cond (b == 44) (Some Fields) (cond (b == 42) (Some HighDigit) None)
-after Fields b = cond (is_field_byte b) (Some Fields) (cond (b == 42) (Some HighDigit) None)
-after HighDigit b = cond (is_hex_digit b) (Some LowDigit) None
-after LowDigit b = cond (is_hex_digit b) (Some End) None
+after Dollar b = if b == 36 then Some (Address 4) else None
+after (Address left) b = if is_address_byte b then Some (if left == 0 then Separator else Address (left - 1)) else None
+after Separator b = if b == 44 then Some Fields else (if b == 42 then Some HighDigit else None)
+after Fields b = if is_field_byte b then Some Fields else (if b == 42 then Some HighDigit else None)
+after HighDigit b = if is_hex_digit b then Some LowDigit else None
+after LowDigit b = if is_hex_digit b then Some End else None
 after End b = None
 
 -- the column that is wrong where a sentence ends and `e` is expected
@@ -30,7 +30,7 @@ end_fault End column = None
 abbrev pub fault_from : Expect → ℕ → List ℕ → Option ℕ
 fault_from e column [] = end_fault e column
 fault_from e column (b ∷ bs) =
-    cond (nat_lt 80 column) (Some column) (elim (after e b) [ None ↦ Some column | Some next ↦ fault_from next (column + 1) bs ])
+    if nat_lt 80 column then Some column else elim (after e b) [ None ↦ Some column | Some next ↦ fault_from next (column + 1) bs ]
 
 -- the first wrong column of a sentence
 abbrev pub shape_fault : List ℕ → Option ℕ

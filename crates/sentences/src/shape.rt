@@ -77,7 +77,7 @@ impl Expect {
     }
 }
 
-// Bytes that have the shape of a sentence.
+// Bytes that have the shape of a sentence. The shortest has `$`, an address, `*` and two digits.
 #[derive(Drop)]
 pub(crate) struct Shaped<'a> {
     bytes: &'a [u8],
