@@ -6,7 +6,8 @@
 //! A line is judged by the first 81 bytes of its text, so no more of it are handed out.
 #![tactic(auto)]
 
-ghost use Rattle.std.specs.Prelude.{◌≤◌};
+use arrayvec::ArrayVec;
+use std::marker::Model;
 
 mod calls;
 
@@ -25,7 +26,14 @@ const KEPT: usize = 82;
 /// The line under way: its first bytes since the last LF.
 #[derive(Drop)]
 pub struct Cutter {
-    bytes: [u8; KEPT],
-    len: usize,
-    ghost fits: { len ≤ 82 },
+    bytes: ArrayVec<u8, KEPT>,
+}
+
+// A cutter is the list of the bytes that it keeps.
+impl Model for Cutter {
+    ghost use Rattle.std.specs.Prelude.{List, ℕ};
+
+    ghost Value = { List ℕ };
+
+    ghost view = { λ cutter. cutter.bytes.items };
 }

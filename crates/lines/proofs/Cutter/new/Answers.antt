@@ -1,9 +1,8 @@
-use Rattle.std.proofs.Common.{◌≡◌, [], take, ap}
-use Rattle.lines.specs.Kept.{kept}
 use Rattle.lines.proofs.Cuts.{right, once}
 use Rattle.lines.proofs.Cutter.new.Goals as goal
 
-pub returns : goal.returns
-returns c =
-    let empty : kept c.empty.result ≡ [] = ap (λ n. take n c.empty.result.bytes) c.empty.ensures in
-    record { empty = empty; after = empty; right = right; once = once }
+pub returns-clause-right : goal.returns-clause-right
+returns-clause-right c = right
+
+pub returns-clause-once : goal.returns-clause-once
+returns-clause-once c = once
