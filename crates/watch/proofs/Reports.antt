@@ -8,9 +8,8 @@ use Rattle.sentences.proofs.Decided.{reading_decided}
 use Rattle.std.proofs.lemmas.List.{append-nil, take_all, take-take}
 use Rattle.std.proofs.lemmas.Bool.{cases_Bool, cases_lt, lt-ltb, le-ltb}
 use Rattle.watch.specs.Printed.{readings_text}
-use Rattle.watch.specs.Progress.{Progress, Fed, start, progress, lines_after, readings_after, line_text, end_line, keep, take_byte, byte_text, take_bytes, bytes_text, end_text, last_text}
+use Rattle.watch.specs.Progress.{Progress, Fed, start, lines_after, readings_after, line_text, end_line, keep, take_byte, byte_text, take_bytes, bytes_text, end_text, last_text}
 use Rattle.watch.specs.Report.{most_lines, outcome_text, outcome_count, line_report, lines_report, readings_in, texts_of, report}
-use Rattle.watch.specs.declared.Bedwatch.{Bedwatch}
 
 -- All that is printed from a state on, where these are the texts of the lines to come.
 abbrev rest : ℕ → ℕ → List (List ℕ) → List ℕ
@@ -90,9 +89,9 @@ all_report input =
     ∙ rest_report (map (λ line. line.text) (lines_of input)) 0 0
     ∙ ap (λ n. lines_report 1 (texts_of input) ++ readings_text n) (zero-add (readings_in (texts_of input)))
 
-pub fed_report : (watch : Bedwatch) (input said : List ℕ) → Fed watch input said → said ++ last_text (progress watch) ≡ report input
-fed_report watch input said fed =
-    ap (λ text. text ++ last_text (progress watch)) fed.text
+pub fed_report : (progress : Progress) (input said : List ℕ) → Fed progress input said → said ++ last_text progress ≡ report input
+fed_report progress input said fed =
+    ap (λ text. text ++ last_text progress) fed.text
     ∙ ap (λ p. bytes_text start input ++ last_text p) fed.came
     ∙ sym (all_text_append start input [])
     ∙ ap (all_text start) (append-nil input)
@@ -118,5 +117,9 @@ report_full input more full =
     ∙ all_text_append start input more
     ∙ ap (λ text. bytes_text start input ++ text) (all_full (take_bytes start input) more full)
 
-pub report_done : (input more : List ℕ) → most_lines ≤ (take_bytes start input).lines → report (input ++ more) ≡ report input
-report_done input more full = report_full input more full ∙ sym (report_full input [] full) ∙ ap report (append-nil input)
+-- Once the millionth line has come, more input changes nothing.
+pub fed_rest : (progress : Progress) (input said more : List ℕ) → Fed progress input said → progress.lines ≡ most_lines → report (input ++ more) ≡ report input
+fed_rest progress input said more fed done = report_full input more full ∙ sym (report_full input [] full) ∙ ap report (append-nil input)
+  where
+    full : most_lines ≤ (take_bytes start input).lines
+    full = omega (arith, ap (λ p. p.lines) fed.came)

@@ -1,11 +1,9 @@
 -- How far a watch has come, and what it prints at each byte. Of the line under way 82 bytes are kept at most.
 use Rattle.std.specs.Prelude.{◌≡◌, ℕ, ◌+◌, cond, List, [], ◌∷◌, ◌++◌, Some, None, fold, Option, ◌==◌, nat_lt}
 use Rattle.lines.specs.Kept.{keep_byte, line_of, last_of}
-use Rattle.lines.specs.Kept as cutters
 use Rattle.sentences.specs.Reader.{reading_of}
 use Rattle.watch.specs.Printed.{readings_text}
 use Rattle.watch.specs.Report.{most_lines, outcome_count, line_report}
-use Rattle.watch.specs.declared.Bedwatch.{Bedwatch}
 
 -- The bytes that are kept of the line under way, how many lines have been treated, and how many of them were readings.
 pub record Progress : Type 0 where
@@ -15,9 +13,6 @@ pub record Progress : Type 0 where
 
 abbrev pub start : Progress
 start = record { kept = []; lines = 0; readings = 0 }
-
-abbrev pub progress : Bedwatch → Progress
-progress watch = record { kept = cutters.kept watch.cutter; lines = watch.counts.lines; readings = watch.counts.readings }
 
 -- One more line ends, after so many: it is treated if it is among the first million.
 
@@ -62,7 +57,7 @@ end_text p (Some text) = line_text p.lines text ++ readings_text (readings_after
 abbrev pub last_text : Progress → List ℕ
 last_text p = end_text p (last_of p.kept)
 
--- The watch was made new and fed pieces that join to `input`, and has printed `said` about it.
-pub record Fed (watch : Bedwatch) (input said : List ℕ) : Type 0 where
-  pub came : progress watch ≡ take_bytes start input
+-- A watch that has come so far was made new and fed pieces that join to `input`, and has printed `said` about it.
+pub record Fed (progress : Progress) (input said : List ℕ) : Type 0 where
+  pub came : progress ≡ take_bytes start input
   pub text : said ≡ bytes_text start input

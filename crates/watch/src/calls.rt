@@ -2,9 +2,10 @@
 
 ghost use Rattle.std.specs.Prelude.{◌≡◌, ℕ, List, [], ◌++◌, string_bytes, OnOk, ◌==◌};
 ghost use Rattle.lines.specs.Lines.{CutRight};
-ghost use Rattle.watch.specs.Progress.{start, progress, take_byte, byte_text, take_bytes, bytes_text, last_text, Fed};
+ghost use Rattle.watch.specs.Progress.{start, take_byte, byte_text, take_bytes, bytes_text, last_text, Fed};
 ghost use Rattle.watch.specs.Report.{most_lines, report};
 
+use super::texts::append_readings;
 use super::{Bedwatch, Counts, MOST_LINES};
 use lines::{Cutter, LF};
 use std::alloc::AllocError;
@@ -12,7 +13,7 @@ use std::alloc::AllocError;
 impl Bedwatch {
     /// A watch at the start of an input.
     pub fn new() -> Bedwatch
-        ensures value { progress result ≡ start }
+        ensures value { result ≡ start }
         ensures fed { Fed result [] [] }
     {
         Bedwatch {
@@ -26,7 +27,8 @@ impl Bedwatch {
 
     // Takes one byte: an LF ends the line under way, which is treated then.
     fn take(&mut self, byte: u8, out: &mut String) -> Result<(), AllocError>
-        ensures { OnOk result ((progress self.new ≡ take_byte (progress self.old) byte) × (string_bytes out.new ≡ string_bytes out.old ++ byte_text (progress self.old) byte)) }
+        ensures value { OnOk result (self.new ≡ take_byte self.old byte) }
+        ensures text { OnOk result (string_bytes out.new ≡ string_bytes out.old ++ byte_text self.old byte) }
     {
         if byte == LF {
             self.counts.treat(self.cutter.line(), out)?;
@@ -39,8 +41,9 @@ impl Bedwatch {
 
     /// Takes the next piece of the input, and appends what is printed about it.
     pub fn feed(&mut self, piece: &[u8], out: &mut String) -> Result<(), AllocError>
-        ensures value { OnOk result ((progress self.new ≡ take_bytes (progress self.old) piece.now) × (string_bytes out.new ≡ string_bytes out.old ++ bytes_text (progress self.old) piece.now)) }
-        ensures fed { (input said : List ℕ) → Fed self.old input said → OnOk result (Fed self.new (input ++ piece.now) (said ++ bytes_text (progress self.old) piece.now)) }
+        ensures value { OnOk result (self.new ≡ take_bytes self.old piece.now) }
+        ensures text { OnOk result (string_bytes out.new ≡ string_bytes out.old ++ bytes_text self.old piece.now) }
+        ensures fed { (input said : List ℕ) → Fed self.old input said → OnOk result (Fed self.new (input ++ piece.now) (said ++ bytes_text self.old piece.now)) }
     {
         for byte in piece {
             self.take(*byte, out)?;
@@ -50,23 +53,23 @@ impl Bedwatch {
 
     /// Whether the last line that is treated has come: nothing that follows counts, so the input need not be read on.
     pub fn is_done(&self) -> bool
-        ensures { result ≡ ((progress self.now).lines == most_lines) }
+        ensures { result ≡ (self.now.lines == most_lines) }
     {
         self.counts.lines == MOST_LINES
     }
 
     /// Appends what is printed where the input ends: about a last line that no LF ends, and how many readings there were.
     pub fn finish(&self, out: &mut String) -> Result<(), AllocError>
-        ensures value { OnOk result (string_bytes out.new ≡ string_bytes out.old ++ last_text (progress self.now)) }
-        ensures report { (input said : List ℕ) → Fed self.now input said → said ++ last_text (progress self.now) ≡ report input }
-        ensures rest { (input said more : List ℕ) → Fed self.now input said → (progress self.now).lines ≡ most_lines → report (input ++ more) ≡ report input }
+        ensures value { OnOk result (string_bytes out.new ≡ string_bytes out.old ++ last_text self.now) }
+        ensures report { (input said : List ℕ) → Fed self.now input said → said ++ last_text self.now ≡ report input }
+        ensures rest { (input said more : List ℕ) → Fed self.now input said → self.now.lines ≡ most_lines → report (input ++ more) ≡ report input }
         ensures cut { CutRight }
     {
         let mut counts = self.counts;
         if let Some(text) = self.cutter.last() {
             counts.treat(text, out)?;
         }
-        counts.append_summary(out)
+        append_readings(out, counts.readings)
     }
 }
 

@@ -9,6 +9,7 @@ ghost use Rattle.std.specs.Prelude.{◌≤◌};
 ghost use Rattle.watch.specs.Report.{most_lines};
 
 use lines::Cutter;
+use std::marker::Model;
 
 mod calls;
 mod texts;
@@ -31,4 +32,13 @@ struct Counts {
 pub struct Bedwatch {
     cutter: Cutter,
     counts: Counts,
+}
+
+// A watch is how far it has come.
+impl Model for Bedwatch {
+    ghost use Rattle.watch.specs.Progress.{Progress};
+
+    ghost Value = { Progress };
+
+    ghost view = { λ watch. record { kept = watch.cutter; lines = watch.counts.lines; readings = watch.counts.readings } };
 }

@@ -1,10 +1,9 @@
 //! What is counted and printed.
 
 ghost use Rattle.std.specs.Prelude.{◌≡◌, ◌++◌, string_bytes, OnOk};
-ghost use Rattle.watch.specs.Printed.{readings_text};
 ghost use Rattle.watch.specs.Progress.{lines_after, readings_after, line_text};
 
-use super::texts::{append_readings, append_refused};
+use super::texts::append_refused;
 use super::{Counts, MOST_LINES};
 use sentences::read_depth;
 use std::alloc::AllocError;
@@ -25,11 +24,5 @@ impl Counts {
             }
         }
         Ok(())
-    }
-    // Appends how many readings there were.
-    pub(crate) fn append_summary(&self, out: &mut String) -> Result<(), AllocError>
-        ensures { OnOk result (string_bytes out.new ≡ string_bytes out.old ++ readings_text self.now.readings) }
-    {
-        append_readings(out, self.readings)
     }
 }
