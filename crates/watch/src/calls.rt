@@ -5,7 +5,6 @@ ghost use Rattle.lines.specs.Lines.{CutRight};
 ghost use Rattle.watch.specs.Progress.{start, take_byte, byte_text, take_bytes, bytes_text, last_text, Fed};
 ghost use Rattle.watch.specs.Report.{most_lines, report};
 
-use super::texts::append_readings;
 use super::{Bedwatch, Counts, MOST_LINES};
 use lines::{Cutter, LF};
 use std::alloc::AllocError;
@@ -69,7 +68,7 @@ impl Bedwatch {
         if let Some(text) = self.cutter.last() {
             counts.treat(text, out)?;
         }
-        append_readings(out, counts.readings)
+        writeln!(out, "readings {}", counts.readings)
     }
 }
 

@@ -12,7 +12,6 @@ use lines::Cutter;
 use std::marker::Model;
 
 mod calls;
-mod texts;
 mod treat;
 
 /// How many lines of an input are treated at most.

@@ -3,7 +3,6 @@
 ghost use Rattle.std.specs.Prelude.{◌≡◌, ◌++◌, string_bytes, OnOk};
 ghost use Rattle.watch.specs.Progress.{lines_after, readings_after, line_text};
 
-use super::texts::append_refused;
 use super::{Counts, MOST_LINES};
 use sentences::read_depth;
 use std::alloc::AllocError;
@@ -20,7 +19,7 @@ impl Counts {
             self.lines += 1;
             match read_depth(text) {
                 Ok(_) => self.readings += 1,
-                Err(error) => append_refused(out, self.lines, &error)?,
+                Err(error) => writeln!(out, "line {} {error}", self.lines)?,
             }
         }
         Ok(())
