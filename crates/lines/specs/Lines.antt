@@ -1,5 +1,5 @@
 -- What the lines of an input are. A byte is a number; 10 is LF and 13 is CR.
-use Rattle.std.specs.Prelude.{◌≡◌, ℕ, ◌-◌, Bool, false, cond, List, [], ◌∷◌, ◌++◌, length, take, ◌==◌, ◌≢◌, slice_index}
+use Rattle.std.specs.Prelude.{◌≡◌, ℕ, ◌-◌, Bool, false, if◌then◌else◌, List, [], ◌∷◌, ◌++◌, length, take, ◌==◌, ◌≢◌, slice_index}
 use Rattle.std.specs.List.{flat_map, AllByRecursion}
 
 -- How a line ends: with LF alone, with CR and LF, or, where the input ends, with nothing.
@@ -37,11 +37,11 @@ ends_in_cr bytes = slice_index bytes (length bytes - 1) == 13
 
 -- The bytes without a CR at their end.
 abbrev pub without_cr : List ℕ → List ℕ
-without_cr bytes = cond (ends_in_cr bytes) (but_last bytes) bytes
+without_cr bytes = if ends_in_cr bytes then but_last bytes else bytes
 
 -- The line that an LF ends, from its bytes before that LF.
 abbrev pub ended_line : List ℕ → Line
-ended_line raw = record { text = without_cr raw; end = cond (ends_in_cr raw) cr_lf lf }
+ended_line raw = record { text = without_cr raw; end = if ends_in_cr raw then cr_lf else lf }
 
 -- The line that the end of the input ends, from its bytes: none if there is no byte.
 abbrev pub last_line : List ℕ → List Line
@@ -51,7 +51,7 @@ last_line (b ∷ bs) = record { text = b ∷ bs; end = none } ∷ []
 -- The lines of what is left of an input, where the bytes `raw` have come since the last LF.
 abbrev pub lines_from : List ℕ → List ℕ → List Line
 lines_from raw [] = last_line raw
-lines_from raw (b ∷ bs) = cond (b == 10) (ended_line raw ∷ lines_from [] bs) (lines_from (raw ++ b ∷ []) bs)
+lines_from raw (b ∷ bs) = if b == 10 then ended_line raw ∷ lines_from [] bs else lines_from (raw ++ b ∷ []) bs
 
 -- The lines of an input.
 abbrev pub lines_of : List ℕ → List Line

@@ -1,5 +1,5 @@
 -- How far a watch has come, and what it prints at each byte. Of the line under way 82 bytes are kept at most.
-use Rattle.std.specs.Prelude.{◌≡◌, ℕ, ◌+◌, cond, List, [], ◌∷◌, ◌++◌, Some, None, fold, Option, ◌==◌, nat_lt}
+use Rattle.std.specs.Prelude.{◌≡◌, ℕ, ◌+◌, if◌then◌else◌, List, [], ◌∷◌, ◌++◌, Some, None, fold, Option, ◌==◌, nat_lt}
 use Rattle.lines.specs.Kept.{keep_byte, line_of, last_of}
 use Rattle.sentences.specs.Reader.{reading_of}
 use Rattle.watch.specs.Printed.{readings_text}
@@ -17,13 +17,13 @@ start = record { kept = []; lines = 0; readings = 0 }
 -- One more line ends, after so many: it is treated if it is among the first million.
 
 abbrev pub lines_after : ℕ → ℕ
-lines_after lines = cond (nat_lt lines most_lines) (lines + 1) lines
+lines_after lines = if nat_lt lines most_lines then lines + 1 else lines
 
 abbrev pub readings_after : ℕ → ℕ → List ℕ → ℕ
-readings_after lines readings text = cond (nat_lt lines most_lines) (readings + outcome_count (reading_of text)) readings
+readings_after lines readings text = if nat_lt lines most_lines then readings + outcome_count (reading_of text) else readings
 
 abbrev pub line_text : ℕ → List ℕ → List ℕ
-line_text lines text = cond (nat_lt lines most_lines) (line_report (lines + 1) text) []
+line_text lines text = if nat_lt lines most_lines then line_report (lines + 1) text else []
 
 -- A byte comes: an LF, 10, ends the line, and any other byte is kept.
 
@@ -34,10 +34,10 @@ abbrev pub keep : Progress → ℕ → Progress
 keep p b = record { kept = keep_byte p.kept b; lines = p.lines; readings = p.readings }
 
 abbrev pub take_byte : Progress → ℕ → Progress
-take_byte p b = cond (b == 10) (end_line p (line_of p.kept)) (keep p b)
+take_byte p b = if b == 10 then end_line p (line_of p.kept) else keep p b
 
 abbrev pub byte_text : Progress → ℕ → List ℕ
-byte_text p b = cond (b == 10) (line_text p.lines (line_of p.kept)) []
+byte_text p b = if b == 10 then line_text p.lines (line_of p.kept) else []
 
 -- Bytes come.
 
