@@ -1,13 +1,11 @@
 -- Bytes that come piece after piece.
-use Rattle.std.proofs.Common.{◌≡◌, ℕ, List, [], ◌∷◌, ◌++◌, sym, refl, ap, ◌∙◌, append_assoc}
+use Rattle.std.proofs.Common.{◌≡◌, ℕ, List, [], ◌∷◌, ◌++◌, sym, refl, ap, ◌∙◌, append_assoc, rules}
 use Rattle.std.proofs.lemmas.List.Sums.{fold-append}
-use Rattle.watch.specs.Progress.{Progress, Fed, start, take_byte, byte_text, take_bytes, bytes_text}
+use Rattle.watch.specs.Progress.{Progress, Fed, start, take_byte, take_bytes, bytes_text}
 
 bytes_text_append : (p : Progress) (bs more : List ℕ) → bytes_text p (bs ++ more) ≡ bytes_text p bs ++ bytes_text (take_bytes p bs) more
 bytes_text_append p [] more = refl
-bytes_text_append p (b ∷ bs) more =
-    let next = take_byte p b in
-    ap (λ text. byte_text p b ++ text) (bytes_text_append next bs more) ∙ sym (append_assoc (byte_text p b) (bytes_text next bs) (bytes_text (take_bytes next bs) more))
+bytes_text_append p (b ∷ bs) more = search (rules, append_assoc, bytes_text_append (take_byte p b) bs more)
 
 -- One more piece.
 pub fed_more : (before after : Progress) (input said piece : List ℕ) → Fed before input said → after ≡ take_bytes before piece → Fed after (input ++ piece) (said ++ bytes_text before piece)

@@ -1,5 +1,5 @@
 -- What is printed byte by byte is the report of the input's lines.
-use Rattle.std.proofs.Common.{◌≡◌, ℕ, suc, ◌+◌, ◌-◌, ◌<◌, ◌≤◌, true, false, cond, eqb, ltb, List, [], ◌∷◌, ◌++◌, map, take, Some, None, Option, sym, refl, ap, ◌∙◌, ⊎_elim, append_assoc, add-zero, add_assoc, zero-add, arith}
+use Rattle.std.proofs.Common.{◌≡◌, ℕ, suc, ◌+◌, ◌-◌, ◌<◌, ◌≤◌, true, false, eqb, List, [], ◌∷◌, ◌++◌, map, take, Some, None, Option, sym, refl, ap, ◌∙◌, ⊎_elim, append_assoc, add-zero, add_assoc, zero-add, arith, rules}
 use Rattle.lines.specs.Kept.{keep_byte, line_of, last_of}
 use Rattle.lines.specs.Lines.{without_cr, last_line, lines_from, lines_of}
 use Rattle.lines.proofs.Keeps.{keep_byte_take, line_of_take}
@@ -9,7 +9,7 @@ use Rattle.std.proofs.lemmas.List.{append-nil, take_all, take-take}
 use Rattle.std.proofs.lemmas.Bool.{cases_Bool, cases_lt, lt-ltb, le-ltb}
 use Rattle.watch.specs.Printed.{readings_text}
 use Rattle.watch.specs.Progress.{Progress, Fed, start, lines_after, readings_after, line_text, end_line, keep, take_byte, byte_text, take_bytes, bytes_text, end_text, last_text}
-use Rattle.watch.specs.Report.{most_lines, outcome_text, outcome_count, line_report, lines_report, readings_in, texts_of, report}
+use Rattle.watch.specs.Report.{most_lines, outcome_count, line_report, lines_report, readings_in, texts_of, report}
 
 -- All that is printed from a state on, where these are the texts of the lines to come.
 abbrev rest : ℕ → ℕ → List (List ℕ) → List ℕ
@@ -18,11 +18,7 @@ rest lines readings (text ∷ texts) = line_text lines text ++ rest (lines_after
 
 -- A line is judged by the first 81 bytes of its text.
 rest_take : (lines readings : ℕ) (text : List ℕ) (texts : List (List ℕ)) → rest lines readings (take 81 text ∷ texts) ≡ rest lines readings (text ∷ texts)
-rest_take lines readings text texts =
-    ap
-    (λ outcome.
-    cond (ltb lines most_lines) (outcome_text (lines + 1) outcome) [] ++ rest (lines_after lines) (cond (ltb lines most_lines) (readings + outcome_count outcome) readings) texts)
-    (reading_decided text)
+rest_take lines readings text texts = rw (reading_decided text) refl
 
 -- All that is printed from a state on, where these are the bytes to come.
 abbrev all_text : Progress → List ℕ → List ℕ
@@ -31,9 +27,7 @@ all_text p (b ∷ bs) = byte_text p b ++ all_text (take_byte p b) bs
 
 all_text_append : (p : Progress) (bs more : List ℕ) → all_text p (bs ++ more) ≡ bytes_text p bs ++ all_text (take_bytes p bs) more
 all_text_append p [] more = refl
-all_text_append p (b ∷ bs) more =
-    let next = take_byte p b in
-    ap (λ text. byte_text p b ++ text) (all_text_append next bs more) ∙ sym (append_assoc (byte_text p b) (bytes_text next bs) (all_text (take_bytes next bs) more))
+all_text_append p (b ∷ bs) more = search (rules, append_assoc, all_text_append (take_byte p b) bs more)
 
 -- From the bytes to the texts of the lines.
 
@@ -91,11 +85,7 @@ all_report input =
 
 pub fed_report : (progress : Progress) (input said : List ℕ) → Fed progress input said → said ++ last_text progress ≡ report input
 fed_report progress input said fed =
-    ap (λ text. text ++ last_text progress) fed.text
-    ∙ ap (λ p. bytes_text start input ++ last_text p) fed.came
-    ∙ sym (all_text_append start input [])
-    ∙ ap (all_text start) (append-nil input)
-    ∙ all_report input
+    rw fed.text (rw fed.came (sym (all_text_append start input []) ∙ ap (all_text start) (append-nil input) ∙ all_report input))
 
 -- After the millionth line nothing counts.
 
@@ -113,9 +103,7 @@ all_full p (b ∷ bs) full =
 
 report_full : (input more : List ℕ) → most_lines ≤ (take_bytes start input).lines → report (input ++ more) ≡ bytes_text start input ++ readings_text (take_bytes start input).readings
 report_full input more full =
-    sym (all_report (input ++ more))
-    ∙ all_text_append start input more
-    ∙ ap (λ text. bytes_text start input ++ text) (all_full (take_bytes start input) more full)
+    rw (sym (all_report (input ++ more))) (rw (all_text_append start input more) (rw (all_full (take_bytes start input) more full) refl))
 
 -- Once the millionth line has come, more input changes nothing.
 pub fed_rest : (progress : Progress) (input said more : List ℕ) → Fed progress input said → progress.lines ≡ most_lines → report (input ++ more) ≡ report input
