@@ -38,12 +38,12 @@ but_last_cr (b ∷ bs) ends =
     ap (λ x. but_last (b ∷ bs) ++ x ∷ []) (sym cr) ∙ sym more ∙ all
 
 end_lf : (t : Bool) → cond t cr_lf lf ≡ lf → t ≡ false
-end_lf true is = let z : ◌≡◌ {A = ℕ} 0 1 = cc in absurd (omega arith)
+end_lf true is = grind arith
 end_lf false is = refl
 
 end_some : (t : Bool) → cond t cr_lf lf ≡ none → ⊥
-end_some true is = let z : ◌≡◌ {A = ℕ} 0 1 = cc in omega arith
-end_some false is = let z : ◌≡◌ {A = ℕ} 0 1 = cc in omega arith
+end_some true is = grind arith
+end_some false is = grind arith
 
 bytes_ended_line : (raw : List ℕ) → line_bytes (ended_line raw) ≡ raw ++ 10 ∷ []
 bytes_ended_line raw =
@@ -89,9 +89,9 @@ cut_last [] plain = record { whole = refl; plain = tt; stripped = tt; ended = tt
 cut_last (b ∷ bs) plain = record {
   whole = append-nil _ ∙ append-nil (b ∷ bs);
   plain = (plain, tt);
-  stripped = ((λ is. let z : ◌≡◌ {A = ℕ} 0 1 = cc in absurd (omega arith)), tt);
+  stripped = ((λ is. grind arith), tt);
   ended = tt;
-  filled = ((λ _ is. let z : ◌≡◌ {A = ℕ} 0 1 = cc in omega arith), tt);
+  filled = ((λ _ is. grind arith), tt);
 }
 
 cut_from : (raw bs : List ℕ) → Plain raw → Cut (raw ++ bs) (lines_from raw bs)
