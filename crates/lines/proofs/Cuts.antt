@@ -1,9 +1,9 @@
 -- The lines of an input are its one right cut.
-use Rattle.std.proofs.Common.{◌≡◌, ℕ, suc, ◌+◌, ◌-◌, Bool, true, false, cond, eqb, List, [], ◌∷◌, ◌++◌, length, get_or, sym, refl, ap, ◌∙◌, ⊎_elim, arith}
+use Rattle.std.proofs.Common.{◌≡◌, ℕ, suc, ◌+◌, ◌-◌, true, false, cond, eqb, List, [], ◌∷◌, ◌++◌, length, get_or, sym, refl, ap, ◌∙◌, ⊎_elim, arith}
 use Rattle.std.specs.List.{flat_map, AllByRecursion}
 use Rattle.std.proofs.ByRecursion.{All-push, All-take}
 use Rattle.std.proofs.lemmas.List.{append-nil, append_assoc, length_push, get_or_push, take_at, take_more, take_all}
-use Rattle.std.proofs.lemmas.Bool.{cases_Bool, false≢true, eqb-true, eqb-false, eq-eqb, ne_eqb, cond-false, cond_both}
+use Rattle.std.proofs.lemmas.Bool.{cases_Bool, false≢true, eqb-true, eqb-false, eq-eqb, ne_eqb, cond_both}
 use Rattle.lines.specs.Lines.{End, lf, cr_lf, none, Line, Cut, CutRight, CutOnce, end_bytes, line_bytes, but_last, ends_in_cr, without_cr, ended_line, last_line, lines_from, lines_of}
 
 -- All but the last of a list.
@@ -37,14 +37,6 @@ but_last_cr (b ∷ bs) ends =
     let all = take_all (at + 1) (b ∷ bs) (omega arith) in
     ap (λ x. but_last (b ∷ bs) ++ x ∷ []) (sym cr) ∙ sym more ∙ all
 
-end_lf : (t : Bool) → cond t cr_lf lf ≡ lf → t ≡ false
-end_lf true is = grind arith
-end_lf false is = refl
-
-end_some : (t : Bool) → cond t cr_lf lf ≡ none → ⊥
-end_some true is = grind arith
-end_some false is = grind arith
-
 bytes_ended_line : (raw : List ℕ) → line_bytes (ended_line raw) ≡ raw ++ 10 ∷ []
 bytes_ended_line raw =
     ⊎_elim
@@ -76,13 +68,10 @@ cut_ended input raw lines plain cut = rw (sym bytes) (cut_cons input (ended_line
     text = cond_both (ends_in_cr raw) (but_last raw) raw Plain (λ _. All-take (λ b. b ≡ 10 → ⊥) (length raw - 1) raw plain) (λ _. plain)
 
     stripped : cond (ends_in_cr raw) cr_lf lf ≡ lf → ends_in_cr (without_cr raw) ≡ false
-    stripped is =
-        let other = end_lf (ends_in_cr raw) is in
-        let same = cond-false (ends_in_cr raw) (but_last raw) raw other in
-        ap ends_in_cr same ∙ other
+    stripped is = grind arith
 
     ended : cond (ends_in_cr raw) cr_lf lf ≡ none → ⊥
-    ended is = end_some (ends_in_cr raw) is
+    ended is = grind arith
 
 cut_last : (raw : List ℕ) → Plain raw → Cut raw (last_line raw)
 cut_last [] plain = record { whole = refl; plain = tt; stripped = tt; ended = tt; filled = tt }
