@@ -1,6 +1,6 @@
 //! The calls of a cutter.
 
-ghost use Rattle.std.specs.Prelude.{◌≡◌, ℕ, List, [], ◌∷◌, ◌++◌, map, take};
+ghost use Rattle.std.specs.Prelude.{◌≡◌, ℕ, ◌≤◌, List, [], ◌∷◌, ◌++◌, map, length, take};
 ghost use Rattle.lines.specs.Kept.{keep_byte, line_of, last_of, After};
 ghost use Rattle.lines.specs.Lines.{without_cr, shown, ended_line, last_line, CutRight, CutOnce};
 ghost use Rattle.std.specs.Option.{option_map, option_to_list};
@@ -42,6 +42,7 @@ impl Cutter {
     /// Takes one more byte of the line under way.
     pub fn keep(&mut self, byte: u8)
         ensures kept { self.new ≡ keep_byte self.old byte }
+        ensures fits { length self.new ≤ 82 }
         ensures after { (raw : List ℕ) → After self.old raw → After self.new (raw ++ byte ∷ []) }
     {
         if !self.bytes.is_full() {

@@ -1,6 +1,6 @@
 //! The calls of a watch.
 
-ghost use Rattle.std.specs.Prelude.{◌≡◌, ℕ, List, [], ◌++◌, string_bytes, OnOk, ◌==◌};
+ghost use Rattle.std.specs.Prelude.{◌≡◌, ℕ, ◌≤◌, List, [], ◌++◌, string_bytes, OnOk, ◌==◌};
 ghost use Rattle.lines.specs.Lines.{CutRight};
 ghost use Rattle.watch.specs.Progress.{start, take_byte, byte_text, take_bytes, bytes_text, last_text, Fed};
 ghost use Rattle.watch.specs.Report.{most_lines, report};
@@ -52,7 +52,9 @@ impl Bedwatch {
 
     /// Whether the last line that is treated has come: nothing that follows counts, so the input need not be read on.
     pub fn is_done(&self) -> bool
-        ensures { result ≡ (self.now.lines == most_lines) }
+        ensures value { result ≡ (self.now.lines == most_lines) }
+        ensures most { self.now.lines ≤ most_lines }
+        ensures among { self.now.readings ≤ self.now.lines }
     {
         self.counts.lines == MOST_LINES
     }
