@@ -1,5 +1,5 @@
 -- What rising, entering and falling do to the rows of a tally. Assumes nothing; the last lemmas, on the count of a key, take alike to be symmetric and transitive.
-use Rattle.std.proofs.Common.{◌≡◌, ℕ, ◌+◌, ◌-◌, ◌<◌, ◌≤◌, Bool, true, false, cond, ltb, List, [], ◌∷◌, ◌++◌, map, length, sum_by, refl, arith}
+use Rattle.std.proofs.Common.{◌≡◌, ℕ, ◌+◌, ◌-◌, ◌<◌, ◌≤◌, Bool, true, false, cond, nat_lt, List, [], ◌∷◌, ◌++◌, map, length, sum_by, refl, arith}
 use Rattle.std.specs.List.{AllByRecursion}
 use Rattle.std.proofs.lemmas.List.{length_push}
 use Rattle.std.proofs.lemmas.List.Sums.{sum_by-cons}
@@ -38,6 +38,10 @@ module _ {K : Type 0} where
   counted_fallen rows = All-weaker _ _ (λ row. ltb-true 0 row.count) (fallen rows) (kept_by_passes _ (map lowered rows))
 
 module _ {K : Type 0} (alike : K → K → Bool) where
+  -- a key is known in the first row or behind it
+  known_first : (row : Row K) (rows : List (Row K)) (x : K) → known alike (row ∷ rows) x ≡ cond (alike row.key x) true (known alike rows x)
+  known_first row rows x = grind (arith, nat_tests)
+
   -- the first row alike to a known key rises
   pub length_risen : (rows : List (Row K)) (x : K) → length (risen alike rows x) ≡ length rows
   length_risen [] x = refl
@@ -46,6 +50,7 @@ module _ {K : Type 0} (alike : K → K → Bool) where
   pub total_risen : (rows : List (Row K)) (x : K) → known alike rows x ≡ true → total rows < 4294967295 → total (risen alike rows x) ≡ total rows + 1
   total_risen [] x old small = absurd (both_ways false refl old)
   total_risen (row ∷ rows) x old small =
+      let first = known_first row rows x in
       let again = total_risen rows x in
       let before = total_cons row rows in
       let here = total_cons (raised row) rows in
@@ -69,15 +74,16 @@ module _ {K : Type 0} (alike : K → K → Bool) where
 
   pub unlike_push : (rows : List (Row K)) (x : K) → known alike rows x ≡ false → Unlike alike rows → Unlike alike (rows ++ entered x ∷ [])
   unlike_push [] x new unlike = (tt, tt)
-  unlike_push (row ∷ rows) x new unlike = (
-    All-push (λ other. alike row.key other.key ≡ false) rows (entered x) unlike.0 (grind arith),
-    unlike_push rows x (grind arith) unlike.1,
-  )
+  unlike_push (row ∷ rows) x new unlike =
+      let first = known_first row rows x in (
+        All-push (λ other. alike row.key other.key ≡ false) rows (entered x) unlike.0 (grind arith),
+        unlike_push rows x (grind arith) unlike.1,
+      )
 
   pub unlike_fallen : (rows : List (Row K)) → Unlike alike rows → Unlike alike (fallen rows)
   unlike_fallen [] unlike = tt
   unlike_fallen (row ∷ rows) unlike =
-      cond_both (ltb 0 (row.count - 1)) _ _ (Unlike alike)
+      cond_both (nat_lt 0 (row.count - 1)) _ _ (Unlike alike)
       (λ _. (all_fallen (λ other. alike row.key other.key ≡ false) rows unlike.0, unlike_fallen rows unlike.1))
       (λ _. unlike_fallen rows unlike.1)
 
@@ -89,7 +95,7 @@ module _ {K : Type 0} (alike : K → K → Bool) where
       → P (step alike room t x)
   step_ways P room t x rises enters falls =
       cond_both (known alike t.rows x) (rise alike t x) _ P rises
-      (λ new. cond_both (ltb (length t.rows) room) (enter t x) (fall t) P (λ free. enters new (ltb-true _ _ free)) (λ full. falls new (ltb-false _ _ full)))
+      (λ new. cond_both (nat_lt (length t.rows) room) (enter t x) (fall t) P (λ free. enters new (ltb-true _ _ free)) (λ full. falls new (ltb-false _ _ full)))
 
   pub length_step : (room : ℕ) (t : Summary K) (k : K) → length t.rows ≤ room → length (step alike room t k).rows ≤ room
   length_step room t k few =
@@ -101,7 +107,10 @@ module _ {K : Type 0} (alike : K → K → Bool) where
   -- the count of a key, before and after x comes
   pub count_none : (rows : List (Row K)) (k : K) → known alike rows k ≡ false → count_in alike rows k ≡ 0
   count_none [] k new = refl
-  count_none (row ∷ rows) k new = let again = count_none rows k in grind arith
+  count_none (row ∷ rows) k new =
+      let first = known_first row rows k in
+      let again = count_none rows k in
+      grind arith
 
   module _ (symm : (x y : K) → alike x y ≡ true → alike y x ≡ true) (tran : (x y z : K) → alike x y ≡ true → alike y z ≡ true → alike x z ≡ true) where
     pub count_same : (rows : List (Row K)) (x k : K) → alike x k ≡ true → count_in alike rows x ≡ count_in alike rows k
@@ -111,13 +120,17 @@ module _ {K : Type 0} (alike : K → K → Bool) where
     pub count_risen : (rows : List (Row K)) (x k : K) → known alike rows x ≡ true → total rows < 4294967295 → count_in alike (risen alike rows x) k ≡ count_in alike rows k + cond (alike x k) 1 0
     count_risen [] x k old small = absurd (both_ways false refl old)
     count_risen (row ∷ rows) x k old small =
+        let first = known_first row rows x in
         let again = count_risen rows x k in
         let before = total_cons row rows in
         grind arith
 
     pub count_push : (rows : List (Row K)) (x k : K) → known alike rows x ≡ false → count_in alike (rows ++ entered x ∷ []) k ≡ count_in alike rows k + cond (alike x k) 1 0
     count_push [] x k new = grind arith
-    count_push (row ∷ rows) x k new = let again = count_push rows x k in grind arith
+    count_push (row ∷ rows) x k new =
+        let first = known_first row rows x in
+        let again = count_push rows x k in
+        grind arith
 
     -- rows that are unlike a key are unlike every key alike to it
     count_unlike : (rows : List (Row K)) (x k : K) → AllByRecursion (λ row. alike x row.key ≡ false) rows → alike x k ≡ true → count_in alike rows k ≡ 0

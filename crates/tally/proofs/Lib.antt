@@ -1,6 +1,6 @@
 pub mod Changes
 pub mod Finds
 pub mod Over
+pub mod Tellings
 pub mod Settles
 pub mod Stepping
-pub mod Tellings

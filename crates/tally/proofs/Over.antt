@@ -1,6 +1,6 @@
 -- A list laid over the first elements of another. Assumes nothing.
 use Rattle.std.proofs.Common.{◌≡◌, ℕ, ◌+◌, ◌-◌, ◌<◌, ◌≤◌, List, [], ◌∷◌, ◌++◌, length, get_or, take, drop, set, sym, refl, ap, ◌∙◌, arith, length-append, length-drop, length-set}
-use Rattle.std.proofs.lemmas.List.{append_assoc, drop_more, get_or-append_right, get_or-drop, length_push, length-take-le, set-append_left, set_at, take-append-drop}
+use Rattle.std.proofs.lemmas.List.{append_assoc, drop-append-le, drop_more, get_or-append_right, get_or-drop, length_push, length-take-le, set-append_left, set_at, take-append-drop}
 use Rattle.tally.specs.Slots.{over}
 
 module _ {X : Type 0} where
@@ -35,3 +35,7 @@ module _ {X : Type 0} where
   over_push n xs x h =
       let long : length (take n xs) ≡ n = length-take-le n xs (omega arith) in
       sym (λ t. set (over_take n xs (omega arith) t) (long t) x) ∙ over_more (take n xs) xs x (omega (arith, long))
+
+  -- what lies behind a part of the first n, and then what lies behind these
+  pub drop_part : (m n : ℕ) (xs : List X) → m ≤ n → n ≤ length xs → drop m (take n xs) ++ drop n xs ≡ drop m xs
+  drop_part m n xs h all = sym (drop-append-le m (take n xs) (drop n xs) (omega (arith, length-take-le n xs all))) ∙ ap (drop m) (take-append-drop n xs)

@@ -1,16 +1,15 @@
 //! The tally: a Misra-Gries summary of keys, in rows that the caller lends.
 #![tactic(auto)]
 
-mod extent;
 mod rows;
-mod search;
 mod slot;
 mod steps;
+mod tally;
 
 pub use rows::{EMPTY, Head, Row};
-pub use search::{count_of, find};
-pub use slot::{Tally, tally_of};
+pub use slot::Slot;
 pub use steps::step;
+pub use tally::{Tally, tally_of};
 
 #[cfg(test)]
 mod tests {
@@ -52,8 +51,9 @@ mod tests {
         let keys = [key(b'A'), key(b'B'), key(b'B'), key(b'C'), key(b'D')];
         let head = tally_of(&mut rows, &keys);
         assert_eq!(rt; head, Head { used: 1, lost: 1 });
-        assert_eq!(rt; count_of(&rows, head, &key(b'B')), 1);
-        assert_eq!(rt; count_of(&rows, head, &key(b'A')), 0);
+        let slot = Slot { rows: &rows, head };
+        assert_eq!(rt; slot.count_of(&key(b'B')), 1);
+        assert_eq!(rt; slot.count_of(&key(b'A')), 0);
     }
 
     #[test]
@@ -73,7 +73,7 @@ mod tests {
     fn more_used_than_rows(rt: HostRuntime) {
         let mut rows = [row(b'A', 5), row(b'B', 1)];
         let head = Head { used: 9, lost: 3 };
-        assert_eq!(rt; find(&rows, head, &key(b'B')), Some(1));
+        assert_eq!(rt; Slot { rows: &rows, head }.find(&key(b'B')), Some(1));
         assert_eq!(rt; step(&mut rows, head, key(b'C')), Head { used: 1, lost: 4 });
         assert_eq!(rt; rows[0].key.bytes, *b"SDDPA");
         assert_eq!(rt; rows[0].count, 4);
@@ -96,7 +96,8 @@ mod tests {
     fn counts_of_0(rt: HostRuntime) {
         let mut rows = [row(b'A', 0), row(b'B', 3)];
         let head = Head { used: 2, lost: 0 };
-        assert_eq!(rt; count_of(&rows, head, &key(b'A')), 0);
+        let slot = Slot { rows: &rows, head };
+        assert_eq!(rt; slot.count_of(&key(b'A')), 0);
         assert_eq!(rt; step(&mut rows, head, key(b'C')), Head { used: 1, lost: 1 });
         assert_eq!(rt; rows[0].key.bytes, *b"SDDPB");
         assert_eq!(rt; rows[0].count, 2);

@@ -1,38 +1,48 @@
-//! A tally over a part of a lent row table.
+//! A slot, to be read: how much of it is read, and looking for a key there.
 
-ghost use Rattle.std.specs.Prelude.{◌≡◌, ◌^◌, ◌<◌, length, IfSome};
-ghost use Rattle.tally.specs.Cases.{Runs};
-ghost use Rattle.tally.specs.Laws.{FirstAlike, StillTells, Tells};
-ghost use Rattle.tally.specs.Steps.{place, count_in, run};
-ghost use Rattle.tally.specs.Slots.{held, stepped, head_of, over, room};
+ghost use Rattle.std.specs.Prelude.{◌≡◌, ◌<◌, length, IfSome, find};
+ghost use Rattle.std.specs.Option.{option_copied};
+ghost use Rattle.tally.specs.Laws.{FirstAlike};
+ghost use Rattle.tally.specs.Slots.{held, in_use, room};
+ghost use Rattle.tally.specs.Steps.{place, count_in};
 
-use crate::rows::{EMPTY, Head, Row};
-use crate::search::{count_of, find};
-use crate::steps::step;
+use crate::rows::{Head, Row};
 use likeness::Likeness;
 
-/// The tally in one slot: the slot's rows, lent by whoever owns the row table, and its head.
-#[derive(Drop)]
-pub struct Tally<'a, K> {
-    rows: &'a mut [Row<K>],
-    head: Head,
+/// A slot as it lies in a table, with its head. Rows and head may hold anything.
+#[derive(Clone, Copy)]
+pub struct Slot<'a, K> {
+    pub rows: &'a [Row<K>],
+    pub head: Head,
 }
 
-impl<'a, K: Likeness> Tally<'a, K> {
-    /// The tally of a slot. Rows and head may hold anything.
-    pub fn new(rows: &'a mut [Row<K>], head: Head) -> Tally<'a, K>
-        ensures rows { result.rows.now ≡ rows.old }
-        ensures named { result.rows.ghost_name ≡ rows.entry.ghost_name }
-        ensures head { result.head ≡ head }
+impl<'a, K: Likeness> Slot<'a, K> {
+    /// How many rows can be used: all, but no more than `used` can count.
+    pub(crate) fn room(&self) -> usize
+        ensures { result ≡ room self.now.rows.now }
     {
-        Tally { rows, head }
+        self.rows.len().min(u32::MAX as usize)
     }
 
-    /// The slot's head as it stands.
-    pub fn head(&self) -> Head
-        ensures { result ≡ self.now.head }
+    /// How many rows are in use.
+    pub(crate) fn in_use(&self) -> usize
+        ensures { result ≡ in_use self.now.rows.now self.now.head }
     {
-        self.head
+        (self.head.used as usize).min(self.room())
+    }
+
+    // The rows in use.
+    fn live(&self) -> &'a [Row<K>]
+        ensures { result.now ≡ (held self.now.rows.now self.now.head).rows }
+    {
+        &self.rows[..self.in_use()]
+    }
+
+    // The first row in use that is alike to the key.
+    fn first_alike(&self, key: &K) -> Option<&'a Row<K>>
+        ensures { option_copied result ≡ find (λ row. K.alike row.key key.now) (held self.now.rows.now self.now.head).rows }
+    {
+        self.live().iter().find(|row| row.key.is_alike(key))
     }
 
     /// The place of the first row in use that is alike to the key.
@@ -41,59 +51,13 @@ impl<'a, K: Likeness> Tally<'a, K> {
         ensures first { FirstAlike K.alike (held self.now.rows.now self.now.head).rows key.now result }
         ensures within { IfSome result (λ i. i < length self.now.rows.now) }
     {
-        find(self.rows, self.head, key)
+        self.live().iter().position(|row| row.key.is_alike(key))
     }
 
     /// What the slot counts of the key: the count of the first row in use that is alike, or 0.
     pub fn count_of(&self, key: &K) -> u32
         ensures { result ≡ count_in K.alike (held self.now.rows.now self.now.head).rows key.now }
     {
-        count_of(self.rows, self.head, key)
+        self.first_alike(key).map_or(0, |row| row.count)
     }
-
-    /// One key comes.
-    pub fn step(&mut self, key: K)
-        ensures named { self.new.rows.ghost_name ≡ self.old.rows.ghost_name }
-        ensures head { self.new.head ≡ head_of (stepped K.alike self.old.rows.now self.old.head key) }
-        ensures rows { self.new.rows.now ≡ over (stepped K.alike self.old.rows.now self.old.head key).rows self.old.rows.now }
-        ensures tells { StillTells K.alike key self.old.rows.now self.old.head self.new.rows.now self.new.head }
-        ensures long { length self.new.rows.now ≡ length self.old.rows.now }
-    {
-        let Tally { rows, head } = self;
-        *head = step(rows, *head, key);
-    }
-
-    // The keys of a list come to the empty tally, one by one.
-    fn fill(&mut self, keys: &[K])
-        requires { self.old.head ≡ record { used = 0; lost = 0 } }
-        ensures named { self.new.rows.ghost_name ≡ self.old.rows.ghost_name }
-        ensures head { self.new.head ≡ head_of (run K.alike (room self.old.rows.now) keys.now) }
-        ensures held { held self.new.rows.now self.new.head ≡ run K.alike (room self.old.rows.now) keys.now }
-    {
-        for key in keys {
-            self.step(*key);
-        }
-    }
-}
-
-// What `tally_of` does. It stands apart, so that the laws on `tally_of` can speak of the rows that it left.
-fn run<K: Likeness>(rows: &mut [Row<K>], keys: &[K]) -> Head
-    ensures head { result ≡ head_of (run K.alike (room rows.old) keys.now) }
-    ensures held { held rows.new result ≡ run K.alike (room rows.old) keys.now }
-{
-    let mut tally = Tally::new(rows, EMPTY);
-    tally.fill(keys);
-    tally.head()
-}
-
-/// The tally of a list of keys, oldest first, made in a slot whatever it held before. Answers the slot's head.
-///
-/// Up to 4,294,967,295 keys, its counts bracket how often each key came.
-pub fn tally_of<K: Likeness>(rows: &mut [Row<K>], keys: &[K]) -> Head
-    ensures head { result ≡ head_of (run K.alike (room rows.old) keys.now) }
-    ensures held { held rows.new result ≡ run K.alike (room rows.old) keys.now }
-    ensures tells { length keys.now < 2 ^ 32 → Tells K.alike (room rows.old) keys.now (held rows.new result) }
-    ensures worked { Runs }
-{
-    run(rows, keys)
 }

@@ -6,47 +6,20 @@ ghost use Rattle.tally.specs.Laws.{StillTells};
 ghost use Rattle.tally.specs.Slots.{head_of, over, stepped};
 ghost use Rattle.tally.specs.Steps.{fallen, lowered};
 
-use crate::extent::{in_use, room_of};
 use crate::rows::{Head, Row};
-use crate::search::find;
+use crate::slot::Slot;
 use likeness::Likeness;
 
-// A row that takes in the count of another, which is alike, and keeps its own key.
-fn joined<K: Copy>(row: Row<K>, came: Row<K>) -> Row<K>
-    ensures { result ≡ record { key = row.key; count = min (row.count + came.count) 4294967295 } }
-{
-    Row {
-        key: row.key,
-        count: row.count.saturating_add(came.count),
-    }
-}
-
-// A row one lower, unless it comes to 0 and leaves.
-fn lowered<K: Copy>(row: Row<K>) -> Option<Row<K>>
-    ensures { result ≡ (if nat_lt 0 (row.count - 1) then Some (lowered row) else None) }
-{
-    let Row { key, count } = row;
-    if count > 1 {
-        Some(Row {
-            key,
-            count: count - 1,
-        })
-    } else {
-        None
-    }
-}
-
-// Takes one off the count of each of the first `used` rows and gives up those that are left with 0. The others
-// move together at the front; how many they are is the answer.
-fn settle<K: Copy>(rows: &mut [Row<K>], used: usize) -> usize
-    requires { used ≤ length rows.old }
-    ensures stay { result ≡ length (fallen (take used rows.old)) }
-    ensures rows { rows.new ≡ over (fallen (take used rows.old)) rows.old }
-    ensures bound { result ≤ used }
+// Takes one off every count and gives up the rows that are left with 0. The others move together at the front; how
+// many they are is the answer. What lies behind them stays as it was, so no count is lowered in its place.
+fn settle<K: Copy>(rows: &mut [Row<K>]) -> usize
+    ensures stay { result ≡ length (fallen rows.old) }
+    ensures rows { rows.new ≡ over (fallen rows.old) rows.old }
+    ensures bound { result ≤ length rows.old }
 {
     let mut stay = 0;
-    for i in 0..used {
-        if let Some(row) = lowered(rows[i]) {
+    for i in 0..rows.len() {
+        if let Some(row) = rows[i].lowered() {
             rows[stay] = row;
             stay += 1;
         }
@@ -55,30 +28,32 @@ fn settle<K: Copy>(rows: &mut [Row<K>], used: usize) -> usize
 }
 
 // What `step` does. It stands apart, so that the laws on `step` are owed at one return and not at three.
+#[tactic(auto, using(crate::proofs::Changes::length_risen, crate::proofs::Over::drop_part, crate::proofs::Over::over_push, std::proofs::lemmas::Grind::common_steps))]
 fn take_key<K: Likeness>(rows: &mut [Row<K>], head: Head, key: K) -> Head
     ensures head { result ≡ head_of (stepped K.alike rows.old head key) }
     ensures rows { rows.new ≡ over (stepped K.alike rows.old head key).rows rows.old }
 {
-    let room = room_of(rows.len());
-    let used = in_use(rows.len(), head);
+    let slot = Slot { rows, head };
+    let room = slot.room();
+    let used = slot.in_use();
     let came = Row { key, count: 1 };
-    match find(rows, head, &key) {
+    match slot.find(&key) {
         Some(place) => {
-            rows[place] = joined(rows[place], came);
+            rows[place] = rows[place].joined(came);
             Head {
                 used: used as u32,
-                lost: head.lost,
+                ..head
             }
         }
         None if used < room => {
             rows[used] = came;
             Head {
                 used: used as u32 + 1,
-                lost: head.lost,
+                ..head
             }
         }
         None => {
-            let stay = settle(rows, used);
+            let stay = settle(&mut rows[..used]);
             Head {
                 used: stay as u32,
                 lost: head.lost.saturating_add(1),

@@ -2,7 +2,7 @@ use Rattle.std.proofs.Common.{sym, refl, subst}
 use Rattle.tally.specs.Laws.{Tells}
 use Rattle.tally.specs.Slots.{room}
 use Rattle.tally.proofs.Tellings.{run_tells}
-use Rattle.tally.proofs.slot.tally_of.Goals as goal
+use Rattle.tally.proofs.tally.tally_of.Goals as goal
 
 pub returns : goal.returns
 returns g c =

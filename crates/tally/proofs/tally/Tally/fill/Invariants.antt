@@ -1,7 +1,7 @@
 use Rattle.std.proofs.Common.{◌≡◌, length, take}
 use Rattle.tally.specs.Steps.{run}
 use Rattle.tally.specs.Slots.{room, held, head_of}
-use Rattle.tally.proofs.slot.Tally.fill.Given as goal
+use Rattle.tally.proofs.tally.Tally.fill.Given as goal
 
 abbrev pub invariant-loop-key : goal.invariant-loop-key
 invariant-loop-key g l =

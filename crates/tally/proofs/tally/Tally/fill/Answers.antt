@@ -4,7 +4,7 @@ use Rattle.std.proofs.lemmas.List.Sums.{fold_more}
 use Rattle.tally.specs.Steps.{empty, step, run}
 use Rattle.tally.specs.Slots.{room, held, stepped, head_of}
 use Rattle.tally.proofs.Stepping.{held_stepped}
-use Rattle.tally.proofs.slot.Tally.fill.Goals as goal
+use Rattle.tally.proofs.tally.Tally.fill.Goals as goal
 
 pub loop-key-preserved : goal.loop-key-preserved
 loop-key-preserved g c =
