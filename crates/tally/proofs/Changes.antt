@@ -1,9 +1,9 @@
 -- What rising, entering and falling do to the rows of a tally. Assumes nothing; the last lemmas, on the count of a key, take alike to be symmetric and transitive.
 use Rattle.std.proofs.Common.{◌≡◌, ℕ, ◌+◌, ◌-◌, ◌<◌, ◌≤◌, Bool, true, false, cond, nat_lt, List, [], ◌∷◌, ◌++◌, map, length, sum_by, refl, arith}
-use Rattle.std.specs.List.{AllByRecursion}
+use Rattle.std.specs.List.{All}
 use Rattle.std.proofs.lemmas.List.{length_push}
 use Rattle.std.proofs.lemmas.List.Sums.{sum_by-cons}
-use Rattle.std.proofs.ByRecursion.{All-push, All-weaker, All-map, all_kept_by, kept_by_passes}
+use Rattle.std.proofs.lemmas.List.Elements.{All-nil, All-cons, All-head, All-tail, All-filter, All-push, All-weaker, All-map, filter_passes}
 use Rattle.std.proofs.lemmas.Bool.{cond_both, both_ways, ltb-true, ltb-false}
 use Rattle.std.proofs.lemmas.Bool.Decides.{nat_tests}
 use Rattle.tally.specs.declared.rows.Row.{Row}
@@ -23,19 +23,20 @@ module _ {K : Type 0} where
   length_fallen [] = omega arith
   length_fallen (row ∷ rows) = let again = length_fallen rows in grind (arith, nat_tests)
 
-  pub total_fallen : (rows : List (Row K)) → AllByRecursion (λ row. 1 ≤ row.count) rows → total (fallen rows) + length rows ≡ total rows
+  pub total_fallen : (rows : List (Row K)) → All (λ row. 1 ≤ row.count) rows → total (fallen rows) + length rows ≡ total rows
   total_fallen [] counted = refl
   total_fallen (row ∷ rows) counted =
-      let again = total_fallen rows counted.1 in
+      let here = All-head (λ r. 1 ≤ r.count) row rows counted in
+      let again = total_fallen rows (All-tail (λ r. 1 ≤ r.count) row rows counted) in
       let before = total_cons row rows in
       let after = total_cons (lowered row) (fallen rows) in
       grind (arith, nat_tests)
 
-  pub all_fallen : (P : Row K → Type 0) (rows : List (Row K)) → AllByRecursion (λ row. P (lowered row)) rows → AllByRecursion P (fallen rows)
-  all_fallen P rows h = all_kept_by _ P (map lowered rows) (All-map P lowered rows h)
+  pub all_fallen : (P : Row K → Type 0) (rows : List (Row K)) → All (λ row. P (lowered row)) rows → All P (fallen rows)
+  all_fallen P rows h = All-filter _ P (map lowered rows) (All-map P lowered rows h)
 
-  pub counted_fallen : (rows : List (Row K)) → AllByRecursion (λ row. 1 ≤ row.count) (fallen rows)
-  counted_fallen rows = All-weaker _ _ (λ row. ltb-true 0 row.count) (fallen rows) (kept_by_passes _ (map lowered rows))
+  pub counted_fallen : (rows : List (Row K)) → All (λ row. 1 ≤ row.count) (fallen rows)
+  counted_fallen rows = All-weaker _ _ (λ row. ltb-true 0 row.count) (fallen rows) (filter_passes _ (map lowered rows))
 
 module _ {K : Type 0} (alike : K → K → Bool) where
   -- a key is known in the first row or behind it
@@ -57,12 +58,12 @@ module _ {K : Type 0} (alike : K → K → Bool) where
       let later = total_cons row (risen alike rows x) in
       grind arith
 
-  pub all_risen : (P : Row K → Type 0) (rows : List (Row K)) (x : K) → ((row : Row K) → P row → P (raised row)) → AllByRecursion P rows → AllByRecursion P (risen alike rows x)
-  all_risen P [] x keeps h = tt
+  pub all_risen : (P : Row K → Type 0) (rows : List (Row K)) (x : K) → ((row : Row K) → P row → P (raised row)) → All P rows → All P (risen alike rows x)
+  all_risen P [] x keeps h = All-nil P
   all_risen P (row ∷ rows) x keeps h =
-      cond_both (alike row.key x) _ _ (AllByRecursion P)
-      (λ _. (keeps row h.0, h.1))
-      (λ _. (h.0, all_risen P rows x keeps h.1))
+      cond_both (alike row.key x) _ _ (All P)
+      (λ _. All-cons P (raised row) rows (keeps row (All-head P row rows h)) (All-tail P row rows h))
+      (λ _. All-cons P row (risen alike rows x) (All-head P row rows h) (all_risen P rows x keeps (All-tail P row rows h)))
 
   -- no two rows are alike, and so it stays
   pub unlike_risen : (rows : List (Row K)) (x : K) → Unlike alike rows → Unlike alike (risen alike rows x)
@@ -73,7 +74,7 @@ module _ {K : Type 0} (alike : K → K → Bool) where
       (λ _. (all_risen (λ other. alike row.key other.key ≡ false) rows x (λ _ h. h) unlike.0, unlike_risen rows x unlike.1))
 
   pub unlike_push : (rows : List (Row K)) (x : K) → known alike rows x ≡ false → Unlike alike rows → Unlike alike (rows ++ entered x ∷ [])
-  unlike_push [] x new unlike = (tt, tt)
+  unlike_push [] x new unlike = (All-nil _, tt)
   unlike_push (row ∷ rows) x new unlike =
       let first = known_first row rows x in (
         All-push (λ other. alike row.key other.key ≡ false) rows (entered x) unlike.0 (grind arith),
@@ -133,9 +134,12 @@ module _ {K : Type 0} (alike : K → K → Bool) where
         grind arith
 
     -- rows that are unlike a key are unlike every key alike to it
-    count_unlike : (rows : List (Row K)) (x k : K) → AllByRecursion (λ row. alike x row.key ≡ false) rows → alike x k ≡ true → count_in alike rows k ≡ 0
+    count_unlike : (rows : List (Row K)) (x k : K) → All (λ row. alike x row.key ≡ false) rows → alike x k ≡ true → count_in alike rows k ≡ 0
     count_unlike [] x k unlike e = refl
-    count_unlike (row ∷ rows) x k unlike e = let again = count_unlike rows x k unlike.1 e in grind arith
+    count_unlike (row ∷ rows) x k unlike e =
+        let here = All-head (λ other. alike x other.key ≡ false) row rows unlike in
+        let again = count_unlike rows x k (All-tail (λ other. alike x other.key ≡ false) row rows unlike) e in
+        grind arith
 
     pub count_fallen : (rows : List (Row K)) (k : K) → Unlike alike rows → count_in alike (fallen rows) k ≡ count_in alike rows k - 1
     count_fallen [] k unlike = refl

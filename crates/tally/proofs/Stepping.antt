@@ -26,6 +26,8 @@ held_over t slot few =
     let front : take (in_use (over t.rows slot) (head_of t)) (over t.rows slot) ≡ t.rows = ap (λ n. take n (over t.rows slot)) all ∙ take_at t.rows _ (length t.rows) refl in
     λ i. record { rows = front i; lost = t.lost }
 
-pub held_stepped : {K : Type 0} (alike : K → K → Bool) (slot : List (Row K)) (head : Head) (k : K)
-    → held (over (stepped alike slot head k).rows slot) (head_of (stepped alike slot head k)) ≡ stepped alike slot head k
-held_stepped alike slot head k = held_over (stepped alike slot head k) slot (length_step alike (room slot) (held slot head) k (omega (arith, length-take-le (in_use slot head) slot (omega arith))))
+-- what a slot holds when a step has been laid into it
+pub held_stepped : {K : Type 0} (alike : K → K → Bool) (slot slot' : List (Row K)) (head head' : Head) (k : K)
+    → slot' ≡ over (stepped alike slot head k).rows slot → head' ≡ head_of (stepped alike slot head k) → held slot' head' ≡ stepped alike slot head k
+held_stepped alike slot slot' head head' k rows used =
+    (λ i. held (rows i) (used i)) ∙ held_over (stepped alike slot head k) slot (length_step alike (room slot) (held slot head) k (omega (arith, length-take-le (in_use slot head) slot (omega arith))))

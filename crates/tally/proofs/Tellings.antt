@@ -1,9 +1,9 @@
 -- A tally tells the truth of the keys that came. Of the laws of a likeness, symmetry and transitivity are used.
 use Rattle.std.proofs.Common.{◌≡◌, ℕ, ◌+◌, ◌<◌, ◌≤◌, Bool, true, false, cond, List, [], ◌∷◌, ◌++◌, length, fold, refl, add-mul, mul-add, arith}
-use Rattle.std.specs.List.{ContainsAt, AllByRecursion}
+use Rattle.std.specs.List.{All, Contains}
 use Rattle.std.proofs.lemmas.List.{append-nil, append_assoc, length_push}
 use Rattle.std.proofs.lemmas.List.Sums.{sum_by_push}
-use Rattle.std.proofs.ByRecursion.{All-push, All-weaker, has_append_left, has_push}
+use Rattle.std.proofs.lemmas.List.Elements.{All-nil, All-push, All-weaker, Contains-append_left, Contains-push}
 use Rattle.likeness.specs.Counts.{true_count}
 use Rattle.tally.specs.declared.rows.Row.{Row}
 use Rattle.tally.specs.Steps.{Summary, empty, up, entered, known, risen, fallen, rise, enter, fall, step, run}
@@ -14,8 +14,8 @@ use Rattle.tally.proofs.Changes.{total, length_fallen, total_fallen, all_fallen,
 true_count_push : {K : Type 0} (alike : K → K → Bool) (keys : List K) (x k : K) → true_count alike (keys ++ x ∷ []) k ≡ true_count alike keys k + cond (alike x k) 1 0
 true_count_push alike keys x k = sum_by_push (λ y. cond (alike y k) 1 0) keys x
 
-came_more : {K : Type 0} (keys : List K) (x : K) (rows : List (Row K)) → AllByRecursion (λ row. ContainsAt keys row.key) rows → AllByRecursion (λ row. ContainsAt (keys ++ x ∷ []) row.key) rows
-came_more keys x rows came = All-weaker _ _ (λ row. has_append_left keys (x ∷ []) row.key) rows came
+came_more : {K : Type 0} (keys : List K) (x : K) (rows : List (Row K)) → All (λ row. Contains keys row.key) rows → All (λ row. Contains (keys ++ x ∷ []) row.key) rows
+came_more keys x rows came = All-weaker _ _ (λ row. Contains-append_left keys (x ∷ []) row.key) rows came
 
 module _ {K : Type 0} (alike : K → K → Bool)
     (symm : (x y : K) → alike x y ≡ true → alike y x ≡ true)
@@ -32,7 +32,7 @@ module _ {K : Type 0} (alike : K → K → Bool)
           few = omega (arith, length_risen alike t.rows x);
           unlike = unlike_risen alike t.rows x told.unlike;
           counted = all_risen alike (λ row. 1 ≤ row.count) t.rows x (λ _ _. omega arith) told.counted;
-          came = all_risen alike (λ row. ContainsAt (keys ++ x ∷ []) row.key) t.rows x (λ _ has. has) (came_more keys x t.rows told.came);
+          came = all_risen alike (λ row. Contains (keys ++ x ∷ []) row.key) t.rows x (λ _ has. has) (came_more keys x t.rows told.came);
           same = count_same alike symm tran (risen alike t.rows x);
         }
 
@@ -44,7 +44,7 @@ module _ {K : Type 0} (alike : K → K → Bool)
       few = omega (arith, length_push t.rows (entered x));
       unlike = unlike_push alike t.rows x new told.unlike;
       counted = All-push (λ row. 1 ≤ row.count) t.rows (entered x) told.counted (omega arith);
-      came = All-push (λ row. ContainsAt (keys ++ x ∷ []) row.key) t.rows (entered x) (came_more keys x t.rows told.came) (has_push keys x);
+      came = All-push (λ row. Contains (keys ++ x ∷ []) row.key) t.rows (entered x) (came_more keys x t.rows told.came) (Contains-push keys x);
       same = count_same alike symm tran (t.rows ++ entered x ∷ []);
     }
 
@@ -64,7 +64,7 @@ module _ {K : Type 0} (alike : K → K → Bool)
           few = omega (arith, length_fallen t.rows);
           unlike = unlike_fallen alike t.rows told.unlike;
           counted = counted_fallen t.rows;
-          came = all_fallen (λ row. ContainsAt (keys ++ x ∷ []) row.key) t.rows (came_more keys x t.rows told.came);
+          came = all_fallen (λ row. Contains (keys ++ x ∷ []) row.key) t.rows (came_more keys x t.rows told.came);
           same = count_same alike symm tran (fallen t.rows);
         }
 
@@ -82,7 +82,7 @@ module _ {K : Type 0} (alike : K → K → Bool)
       rw append_assoc at (steps_tell room (seen ++ x ∷ []) (step alike room t x) keys (omega (arith, length_push seen x)) (step_tells room seen t x (omega arith) told))
 
   empty_tells : (room : ℕ) → Tells alike room [] empty
-  empty_tells room = record { whole = omega arith; floor = λ _. omega arith; ceiling = λ _. omega arith; few = omega arith; unlike = tt; counted = tt; came = tt; same = λ _ _ _. refl }
+  empty_tells room = record { whole = omega arith; floor = λ _. omega arith; ceiling = λ _. omega arith; few = omega arith; unlike = tt; counted = All-nil _; came = All-nil _; same = λ _ _ _. refl }
 
   pub run_tells : (room : ℕ) (keys : List K) → length keys < 4294967296 → Tells alike room keys (run alike room keys)
   run_tells room keys small = steps_tell room [] empty keys (omega arith) (empty_tells room)

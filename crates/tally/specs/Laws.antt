@@ -1,6 +1,6 @@
 -- What a tally tells of the keys that came. Assumes nothing.
-use Rattle.std.specs.Prelude.{◌≡◌, ℕ, ◌+◌, ◌*◌, ◌^◌, ◌<◌, ◌≤◌, Bool, true, false, List, [], ◌∷◌, ◌++◌, length, Some, None, sum_by, Option}
-use Rattle.std.specs.List.{HoldsAt, AllWithin, ContainsAt, AllByRecursion}
+use Rattle.std.specs.Prelude.{◌≡◌, ℕ, ◌+◌, ◌*◌, ◌^◌, ◌<◌, ◌≤◌, Bool, true, false, List, [], ◌∷◌, ◌++◌, length, Some, None, sum_by, Option, All, Contains}
+use Rattle.std.specs.List.{HoldsAt, AllWithin}
 use Rattle.likeness.specs.Counts.{true_count}
 use Rattle.tally.specs.declared.rows.Row.{Row}
 use Rattle.tally.specs.declared.rows.Head.{Head}
@@ -10,11 +10,11 @@ use Rattle.tally.specs.Steps.{Summary, count_in}
 -- no two rows are alike
 abbrev pub Unlike : {K : Type 0} → (K → K → Bool) → List (Row K) → Type 0
 Unlike alike [] = Unit {0}
-Unlike alike (row ∷ rows) = AllByRecursion (λ other. alike row.key other.key ≡ false) rows × Unlike alike rows
+Unlike alike (row ∷ rows) = All (λ other. alike row.key other.key ≡ false) rows × Unlike alike rows
 
 -- what it means that a search found r: the row there is alike to k and none before it is, or no row is
 abbrev pub FirstAlike : {K : Type 0} → (K → K → Bool) → List (Row K) → K → Option ℕ → Type 0
-FirstAlike alike rows k None = AllByRecursion (λ row. alike row.key k ≡ false) rows
+FirstAlike alike rows k None = All (λ row. alike row.key k ≡ false) rows
 FirstAlike alike rows k (Some i) = (i < length rows) × HoldsAt (λ row. alike row.key k ≡ true) rows i × AllWithin (λ row. alike row.key k ≡ false) rows 0 i
 
 -- t is true to `keys`, as a tally of at most `room` rows
@@ -26,9 +26,9 @@ pub record Tells {K : Type 0} (alike : K → K → Bool) (room : ℕ) (keys : Li
   pub ceiling : (k : K) → true_count alike keys k ≤ count_in alike t.rows k + t.lost
   pub few : length t.rows ≤ room
   pub unlike : Unlike alike t.rows
-  pub counted : AllByRecursion (λ row. 1 ≤ row.count) t.rows
+  pub counted : All (λ row. 1 ≤ row.count) t.rows
   -- the key of each row is one of the keys
-  pub came : AllByRecursion (λ row. ContainsAt keys row.key) t.rows
+  pub came : All (λ row. Contains keys row.key) t.rows
   -- alike keys have equal counts
   pub same : (k other : K) → alike k other ≡ true → count_in alike t.rows k ≡ count_in alike t.rows other
 

@@ -70,8 +70,7 @@ impl<'a, K: Likeness> Tally<'a, K> {
         ensures tells { StillTells K.alike key self.old.rows.now self.old.head self.new.rows.now self.new.head }
         ensures long { length self.new.rows.now ≡ length self.old.rows.now }
     {
-        let Tally { rows, head } = self;
-        *head = step(rows, *head, key);
+        self.head = step(self.rows, self.head, key);
     }
 
     // The keys of a list come to the empty tally, one by one.

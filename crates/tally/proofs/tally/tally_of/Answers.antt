@@ -1,17 +1,12 @@
-use Rattle.std.proofs.Common.{sym, refl, subst}
+use Rattle.std.proofs.Common.{sym, subst}
 use Rattle.tally.specs.Laws.{Tells}
 use Rattle.tally.specs.Slots.{room}
 use Rattle.tally.proofs.Tellings.{run_tells}
 use Rattle.tally.proofs.tally.tally_of.Goals as goal
 
-pub returns : goal.returns
-returns g c =
+pub returns-clause-tells : goal.returns-clause-tells
+returns-clause-tells g c small =
     let alike = g.K.Likeness.alike in
     let most = room c.args.rows.now in
     let keys = c.args.keys.now in
-    record {
-      head = c.run.ensures.head;
-      held = c.run.ensures.held;
-      tells = λ small. subst (Tells alike most keys) (sym c.run.ensures.held) (run_tells alike g.met.K.Likeness.symmetric g.met.K.Likeness.transitive most keys small);
-      worked = record { four = refl; six = refl; own_key = refl };
-    }
+    subst (Tells alike most keys) (sym c.run.ensures.held) (run_tells alike g.met.K.Likeness.symmetric g.met.K.Likeness.transitive most keys small)

@@ -5,6 +5,10 @@ use Rattle.tally.proofs.tally.Tally.fill.Given as goal
 
 abbrev pub invariant-loop-key : goal.invariant-loop-key
 invariant-loop-key g l =
-    (l.self.rows.ghost_name ≡ l.initial.self.rows.ghost_name) × (length l.self.rows.now ≡ length l.initial.self.rows.now)
-    × (l.self.head ≡ head_of (run g.K.Likeness.alike (room l.initial.self.rows.now) (take l.key-index l.keys)))
-    × (held l.self.rows.now l.self.head ≡ run g.K.Likeness.alike (room l.initial.self.rows.now) (take l.key-index l.keys))
+    let done = run g.K.Likeness.alike (room l.initial.self.rows.now) (take l.key-index l.keys) in
+    record {
+      named : l.self.rows.ghost_name ≡ l.initial.self.rows.ghost_name;
+      long : length l.self.rows.now ≡ length l.initial.self.rows.now;
+      head : l.self.head ≡ head_of done;
+      held : held l.self.rows.now l.self.head ≡ done;
+    }
