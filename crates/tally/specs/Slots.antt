@@ -4,13 +4,9 @@ use Rattle.tally.specs.declared.rows.Row.{Row}
 use Rattle.tally.specs.declared.rows.Head.{Head}
 use Rattle.tally.specs.Steps.{Summary, step}
 
--- how many of `len` rows can be used: `used` has 32 bits, so a longer slot is read as its first 4,294,967,295 rows
-abbrev pub room_of : ℕ → ℕ
-room_of len = min len 4294967295
-
--- how many rows of a slot can be used
+-- how many rows of a slot can be used: `used` has 32 bits, so a longer slot is read as its first 4,294,967,295 rows
 abbrev pub room : {X : Type 0} → List X → ℕ
-room slot = room_of (length slot)
+room slot = min (length slot) 4294967295
 
 -- a used number above the room is read as the room
 abbrev pub in_use : {X : Type 0} → List X → Head → ℕ

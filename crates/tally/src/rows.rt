@@ -1,6 +1,7 @@
 //! What a tally is kept in.
 
-ghost use Rattle.std.specs.Prelude.{◌≡◌, ◌+◌, ◌-◌, min, nat_lt, Some, None, if◌then◌else◌};
+ghost use Rattle.std.specs.Prelude.{◌≡◌, ◌+◌, min, nat_lt, if◌then◌else◌};
+ghost use Rattle.tally.specs.Steps.{lowered};
 
 /// A key and its count: how often it was counted, less the falls since it entered.
 #[derive(Clone, Copy, Debug)]
@@ -10,7 +11,7 @@ pub struct Row<K> {
 }
 
 impl<K: Copy> Row<K> {
-    /// With the count of another row, which is alike; the key stays.
+    /// A row that takes in the count of another, which is alike, and keeps its own key.
     pub(crate) fn joined(self, came: Row<K>) -> Row<K>
         ensures { result ≡ record self { count = min (self.count + came.count) 4294967295 } }
     {
@@ -20,9 +21,9 @@ impl<K: Copy> Row<K> {
         }
     }
 
-    /// One lower, unless it comes to 0 and leaves.
+    /// A row one lower, unless it comes to 0 and leaves.
     pub(crate) fn lowered(self) -> Option<Row<K>>
-        ensures { result ≡ (if nat_lt 0 (self.count - 1) then Some (record self { count = self.count - 1 }) else None) }
+        ensures { result ≡ (if nat_lt 0 (lowered self).count then Some (lowered self) else None) }
     {
         let count = self.count.saturating_sub(1);
         (count > 0).then_some(Row { count, ..self })

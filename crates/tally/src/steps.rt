@@ -11,7 +11,8 @@ use crate::slot::Slot;
 use likeness::Likeness;
 
 // Takes one off every count and gives up the rows that are left with 0. The others move together at the front; how
-// many they are is the answer. What lies behind them stays as it was, so no count is lowered in its place.
+// many they are is the answer, and what lies behind them stays as it was. Places are counted, since one pass reads and
+// writes the same lent rows: there is no memory for others.
 fn settle<K: Copy>(rows: &mut [Row<K>]) -> usize
     ensures stay { result ≡ length (fallen rows.old) }
     ensures rows { rows.new ≡ over (fallen rows.old) rows.old }

@@ -36,7 +36,7 @@ impl<'a, K: Likeness> Tally<'a, K> {
     }
 
     // The slot, to be read.
-    fn slot(&self) -> Slot<K>
+    fn slot(&self) -> Slot<'_, K>
         ensures rows { result.rows.now ≡ self.now.rows.now }
         ensures head { result.head ≡ self.now.head }
     {
@@ -86,16 +86,6 @@ impl<'a, K: Likeness> Tally<'a, K> {
     }
 }
 
-// What `tally_of` does. It stands apart, so that the laws on `tally_of` can speak of the rows that it left.
-fn run<K: Likeness>(rows: &mut [Row<K>], keys: &[K]) -> Head
-    ensures head { result ≡ head_of (run K.alike (room rows.old) keys.now) }
-    ensures held { held rows.new result ≡ run K.alike (room rows.old) keys.now }
-{
-    let mut tally = Tally::new(rows, EMPTY);
-    tally.fill(keys);
-    tally.head()
-}
-
 /// The tally of a list of keys, oldest first, made in a slot whatever it held before. Answers the slot's head.
 ///
 /// Up to 4,294,967,295 keys, its counts bracket how often each key came.
@@ -105,5 +95,7 @@ pub fn tally_of<K: Likeness>(rows: &mut [Row<K>], keys: &[K]) -> Head
     ensures tells { length keys.now < 2 ^ 32 → Tells K.alike (room rows.old) keys.now (held rows.new result) }
     ensures worked { Runs }
 {
-    run(rows, keys)
+    let mut tally = Tally::new(rows, EMPTY);
+    tally.fill(keys);
+    tally.head()
 }

@@ -1,4 +1,4 @@
-use Rattle.std.proofs.Common.{sym, subst}
+use Rattle.std.proofs.Common.{rules, subst}
 use Rattle.tally.specs.Laws.{Tells}
 use Rattle.tally.specs.Slots.{room}
 use Rattle.tally.proofs.Tellings.{run_tells}
@@ -9,4 +9,4 @@ returns-clause-tells g c small =
     let alike = g.K.Likeness.alike in
     let most = room c.args.rows.now in
     let keys = c.args.keys.now in
-    subst (Tells alike most keys) (sym c.run.ensures.held) (run_tells alike g.met.K.Likeness.symmetric g.met.K.Likeness.transitive most keys small)
+    subst (Tells alike most keys) (search rules) (run_tells alike g.met.K.Likeness.symmetric g.met.K.Likeness.transitive most keys small)
