@@ -1,9 +1,9 @@
 -- What rising, entering and falling do to the rows of a tally. Assumes nothing; the last lemmas, on the count of a key, take alike to be symmetric and transitive.
-use Rattle.std.proofs.Common.{◌≡◌, ℕ, ◌+◌, ◌-◌, ◌<◌, ◌≤◌, Bool, true, false, cond, nat_lt, List, [], ◌∷◌, ◌++◌, map, length, sum_by, refl, arith}
+use Rattle.std.proofs.Common.{◌≡◌, ℕ, ◌+◌, ◌-◌, ◌<◌, ◌≤◌, Bool, true, false, cond, nat_lt, List, [], ◌∷◌, ◌++◌, map, length, get_or, take, sum_by, if◌then◌else◌, refl, arith}
 use Rattle.std.specs.List.{All}
-use Rattle.std.proofs.lemmas.List.{length_push}
+use Rattle.std.proofs.lemmas.List.{length_push, map-append, take_more}
 use Rattle.std.proofs.lemmas.List.Sums.{sum_by-cons}
-use Rattle.std.proofs.lemmas.List.Elements.{All-nil, All-cons, All-head, All-tail, All-filter, All-push, All-weaker, All-map, filter_passes}
+use Rattle.std.proofs.lemmas.List.Elements.{All-nil, All-cons, All-head, All-tail, All-filter, All-push, All-weaker, All-map, filter-append, filter_passes}
 use Rattle.std.proofs.lemmas.Bool.{cond_both, both_ways, ltb-true, ltb-false}
 use Rattle.std.proofs.lemmas.Bool.Decides.{nat_tests}
 use Rattle.tally.specs.declared.rows.Row.{Row}
@@ -22,6 +22,11 @@ module _ {K : Type 0} where
   pub length_fallen : (rows : List (Row K)) → length (fallen rows) ≤ length rows
   length_fallen [] = omega arith
   length_fallen (row ∷ rows) = let again = length_fallen rows in grind (arith, nat_tests)
+
+  -- one row more has fallen
+  pub fallen_more : (rows : List (Row K)) (i : ℕ) (row : Row K) → i < length rows → row ≡ get_or rows i row
+      → fallen (take (i + 1) rows) ≡ fallen (take i rows) ++ (if nat_lt 0 (lowered row).count then lowered row ∷ [] else [])
+  fallen_more rows i row within read = let more = take_more rows i row within in grind (arith, map-append, filter-append)
 
   pub total_fallen : (rows : List (Row K)) → All (λ row. 1 ≤ row.count) rows → total (fallen rows) + length rows ≡ total rows
   total_fallen [] counted = refl
@@ -51,12 +56,11 @@ module _ {K : Type 0} (alike : K → K → Bool) where
   pub total_risen : (rows : List (Row K)) (x : K) → known alike rows x ≡ true → total rows < 4294967295 → total (risen alike rows x) ≡ total rows + 1
   total_risen [] x old small = absurd (both_ways false refl old)
   total_risen (row ∷ rows) x old small =
-      let first = known_first row rows x in
       let again = total_risen rows x in
       let before = total_cons row rows in
       let here = total_cons (raised row) rows in
       let later = total_cons row (risen alike rows x) in
-      grind arith
+      grind (arith, known_first)
 
   pub all_risen : (P : Row K → Type 0) (rows : List (Row K)) (x : K) → ((row : Row K) → P row → P (raised row)) → All P rows → All P (risen alike rows x)
   all_risen P [] x keeps h = All-nil P
@@ -76,10 +80,8 @@ module _ {K : Type 0} (alike : K → K → Bool) where
   pub unlike_push : (rows : List (Row K)) (x : K) → known alike rows x ≡ false → Unlike alike rows → Unlike alike (rows ++ entered x ∷ [])
   unlike_push [] x new unlike = (All-nil _, tt)
   unlike_push (row ∷ rows) x new unlike =
-      let first = known_first row rows x in (
-        All-push (λ other. alike row.key other.key ≡ false) rows (entered x) unlike.0 (grind arith),
-        unlike_push rows x (grind arith) unlike.1,
-      )
+      let first = known_first row rows x in
+      (All-push (λ other. alike row.key other.key ≡ false) rows (entered x) unlike.0 (grind arith), unlike_push rows x (grind arith) unlike.1)
 
   pub unlike_fallen : (rows : List (Row K)) → Unlike alike rows → Unlike alike (fallen rows)
   unlike_fallen [] unlike = tt
@@ -100,18 +102,14 @@ module _ {K : Type 0} (alike : K → K → Bool) where
 
   pub length_step : (room : ℕ) (t : Summary K) (k : K) → length t.rows ≤ room → length (step alike room t k).rows ≤ room
   length_step room t k few =
-      step_ways (λ next. length next.rows ≤ room) room t k
-      (λ old. omega (arith, length_risen t.rows k))
-      (λ new free. omega (arith, length_push t.rows (entered k)))
-      (λ new full. omega (arith, length_fallen t.rows))
+      let rises = length_risen t.rows k in
+      let falls = length_fallen t.rows in
+      grind (arith, nat_tests, length_push)
 
   -- the count of a key, before and after x comes
   pub count_none : (rows : List (Row K)) (k : K) → known alike rows k ≡ false → count_in alike rows k ≡ 0
   count_none [] k new = refl
-  count_none (row ∷ rows) k new =
-      let first = known_first row rows k in
-      let again = count_none rows k in
-      grind arith
+  count_none (row ∷ rows) k new = let again = count_none rows k in grind (arith, known_first)
 
   module _ (symm : (x y : K) → alike x y ≡ true → alike y x ≡ true) (tran : (x y z : K) → alike x y ≡ true → alike y z ≡ true → alike x z ≡ true) where
     pub count_same : (rows : List (Row K)) (x k : K) → alike x k ≡ true → count_in alike rows x ≡ count_in alike rows k
@@ -121,17 +119,12 @@ module _ {K : Type 0} (alike : K → K → Bool) where
     pub count_risen : (rows : List (Row K)) (x k : K) → known alike rows x ≡ true → total rows < 4294967295 → count_in alike (risen alike rows x) k ≡ count_in alike rows k + cond (alike x k) 1 0
     count_risen [] x k old small = absurd (both_ways false refl old)
     count_risen (row ∷ rows) x k old small =
-        let first = known_first row rows x in
         let again = count_risen rows x k in
-        let before = total_cons row rows in
-        grind arith
+        grind (arith, known_first, total_cons)
 
     pub count_push : (rows : List (Row K)) (x k : K) → known alike rows x ≡ false → count_in alike (rows ++ entered x ∷ []) k ≡ count_in alike rows k + cond (alike x k) 1 0
     count_push [] x k new = grind arith
-    count_push (row ∷ rows) x k new =
-        let first = known_first row rows x in
-        let again = count_push rows x k in
-        grind arith
+    count_push (row ∷ rows) x k new = let again = count_push rows x k in grind (arith, known_first)
 
     -- rows that are unlike a key are unlike every key alike to it
     count_unlike : (rows : List (Row K)) (x k : K) → All (λ row. alike x row.key ≡ false) rows → alike x k ≡ true → count_in alike rows k ≡ 0

@@ -1,6 +1,4 @@
 pub mod Changes
-pub mod Finds
 pub mod Over
-pub mod Tellings
-pub mod Settles
 pub mod Stepping
+pub mod Tellings

@@ -1,8 +1,8 @@
 use Rattle.std.proofs.Common.{◌≡◌, get_or, arith}
 use Rattle.std.proofs.lemmas.Grind.{common_steps}
 use Rattle.std.proofs.lemmas.Bool.Decides.{nat_tests}
+use Rattle.tally.proofs.Changes.{fallen_more}
 use Rattle.tally.proofs.Over.{over_more, over_read}
-use Rattle.tally.proofs.Settles.{fallen_more}
 use Rattle.tally.proofs.steps.settle.Goals as goal
 use Rattle.tally.proofs.steps.settle.Goals.{in-Some, in_default}
 
