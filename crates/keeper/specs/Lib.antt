@@ -1,4 +1,6 @@
+pub mod Chosen
 pub mod Figures
 pub mod Listing
 pub mod Refusals
 pub mod Rules
+pub mod Tables

@@ -1,10 +1,11 @@
 -- Which calls are refused, and as what: for code and promises alike. Where several reasons hold, the lowest number is told, but for a list that is too short, which comes last. Assumes nothing.
 use Rattle.std.specs.Prelude.{◌≡◌, ℕ, ◌+◌, ◌*◌, ◌^◌, Bool, cond, ◌||◌, Some, None, Ok, Err, Option, Result, ◌==◌, nat_le, nat_lt}
-use Rattle.keeper.specs.declared.entry.Needs.{Needs}
+use Rattle.keeper.specs.declared.lengths.Lengths.{Lengths}
 use Rattle.keeper.specs.declared.refusal.Refusal.{Refusal}
 use Rattle.keeper.specs.declared.refusal.Refusal.TheVariants.{Accuracy, Span, ShortTable, ShortList, Spent, Full, Vacant, Threshold}
 use Rattle.keeper.specs.declared.setting.Setting.{Setting}
 use Rattle.keeper.specs.Figures.{Figures}
+use Rattle.keeper.specs.Tables.{short}
 
 -- the number of each refusal
 abbrev pub number_of : Refusal → ℕ
@@ -26,14 +27,6 @@ abbrev pub Made : ℕ → ℕ → Result Setting Refusal → Type 0
 Made a k (Ok s) = (unset a k ≡ None) × (s.accuracy ≡ a) × (s.span ≡ k)
 Made a k (Err e) = unset a k ≡ Some e
 
--- what a keeper needs of its tables follows from its accuracy and its span
-abbrev pub needed : {S : Type 0} → (S → Figures) → (ℕ → ℕ → Needs) → S → Needs
-needed figures need s = need (figures s).accuracy (figures s).span
-
--- tables of so many rows and heads are too short
-abbrev pub short : Needs → ℕ → ℕ → Bool
-short need rows heads = nat_lt rows need.rows || nat_lt heads need.heads
-
 -- 2^30 puts are counted, and no more
 abbrev pub most_puts : ℕ
 most_puts = 1073741824
@@ -42,10 +35,10 @@ most_puts = 1073741824
 abbrev pub unfit : Figures → ℕ → Bool
 unfit f threshold = threshold == 0 || nat_lt (threshold * 2 ^ f.accuracy) f.size
 
--- what a put, a drop, a count and a list answer, with tables of so many rows and heads
-abbrev pub put_answer : Needs → ℕ → ℕ → Figures → Result (Unit {0}) Refusal
-put_answer need rows heads f =
-    cond (short need rows heads) (Err ShortTable)
+-- what a put, a drop, a count and a list answer, by what is needed of the tables and what is lent
+abbrev pub put_answer : Lengths → Lengths → Figures → Result (Unit {0}) Refusal
+put_answer need lent f =
+    cond (short need lent) (Err ShortTable)
     (cond (nat_le most_puts f.puts) (Err Spent)
     (cond (nat_le (2 ^ f.span) f.size) (Err Full) (Ok tt)))
 
@@ -53,13 +46,13 @@ abbrev pub drop_answer : Figures → Result (Unit {0}) Refusal
 drop_answer f = cond (f.size == 0) (Err Vacant) (Ok tt)
 
 -- `value` is what is answered where nothing is refused
-abbrev pub count_answer : {X : Type 0} → Needs → ℕ → ℕ → X → Result X Refusal
-count_answer need rows heads value = cond (short need rows heads) (Err ShortTable) (Ok value)
+abbrev pub count_answer : {X : Type 0} → Lengths → Lengths → X → Result X Refusal
+count_answer need lent value = cond (short need lent) (Err ShortTable) (Ok value)
 
 -- a list with these tables and at this threshold; `rest` is what is answered where neither is refused
-abbrev pub question_answer : {X : Type 0} → Needs → ℕ → ℕ → Figures → ℕ → Result X Refusal → Result X Refusal
-question_answer need rows heads f threshold rest = cond (short need rows heads) (Err ShortTable) (cond (unfit f threshold) (Err Threshold) rest)
+abbrev pub question_answer : {X : Type 0} → Lengths → Lengths → Figures → ℕ → Result X Refusal → Result X Refusal
+question_answer need lent f threshold rest = cond (short need lent) (Err ShortTable) (cond (unfit f threshold) (Err Threshold) rest)
 
 -- `room` entries can be written, and `named` are to be
-abbrev pub list_answer : Needs → ℕ → ℕ → Figures → ℕ → ℕ → ℕ → Result ℕ Refusal
-list_answer need rows heads f threshold room named = question_answer need rows heads f threshold (cond (nat_lt room named) (Err ShortList) (Ok named))
+abbrev pub list_answer : Lengths → Lengths → Figures → ℕ → ℕ → ℕ → Result ℕ Refusal
+list_answer need lent f threshold room named = question_answer need lent f threshold (cond (nat_lt room named) (Err ShortList) (Ok named))

@@ -8,11 +8,12 @@ use Rattle.tally.specs.declared.rows.Head.{Head}
 use Rattle.tally.specs.declared.rows.Row.{Row}
 use Rattle.tally.specs.Slots.{over}
 use Rattle.keeper.specs.declared.entry.Entry.{Entry}
-use Rattle.keeper.specs.declared.entry.Needs.{Needs}
+use Rattle.keeper.specs.declared.lengths.Lengths.{Lengths}
 use Rattle.keeper.specs.declared.refusal.Refusal.{Refusal}
 use Rattle.keeper.specs.Figures.{Figures, newly, grown, shrunk}
 use Rattle.keeper.specs.Listing.{Apart, among, bracket_in}
-use Rattle.keeper.specs.Refusals.{needed, short, unfit, put_answer, drop_answer, count_answer, list_answer}
+use Rattle.keeper.specs.Tables.{lengths, needed, short}
+use Rattle.keeper.specs.Refusals.{unfit, put_answer, drop_answer, count_answer, list_answer}
 
 -- floor and ceiling, at accuracy a and in a window of n keys, for a key that truly counts `count`
 pub record Bracket (a n count : ℕ) (bracket : ℕ × ℕ) : Type 0 where
@@ -55,10 +56,10 @@ module _ {S K : Type 0} (figures : S → Figures) (holds : S → List (Row K) �
         → TrueTo s rows heads past (oldest ∷ window) → TrueTo s' rows heads (past ++ oldest ∷ []) window
     pub kept : is_ok r ≡ false → s' ≡ s
 
-  module _ (need : ℕ → ℕ → Needs) where
+  module _ (need : ℕ → ℕ → Lengths) where
     -- a put
     pub record Put (s : S) (rows : List (Row K)) (heads : List Head) (key : K) (r : Result (Unit {0}) Refusal) (s' : S) (rows' : List (Row K)) (heads' : List Head) : Type 0 where
-      pub answer : r ≡ put_answer (needed figures need s) (length rows) (length heads) (figures s)
+      pub answer : r ≡ put_answer (needed figures need s) (lengths rows heads) (figures s)
       pub tells : is_ok r ≡ true → figures s' ≡ grown (figures s)
       pub takes : is_ok r ≡ true → (past window : List K) → TrueTo s rows heads past window → TrueTo s' rows' heads' past (window ++ key ∷ [])
       pub kept : is_ok r ≡ false → (s' ≡ s) × (rows' ≡ rows) × (heads' ≡ heads)
@@ -68,7 +69,7 @@ module _ {S K : Type 0} (figures : S → Figures) (holds : S → List (Row K) �
     module _ (alike : K → K → Bool) (bracket : S → List (Row K) → List Head → K → ℕ × ℕ) where
       -- a count: its bracket follows from record, tables and key
       pub record Counted (s : S) (rows : List (Row K)) (heads : List Head) (key : K) (r : Result (ℕ × ℕ) Refusal) : Type 0 where
-        pub answer : r ≡ count_answer (needed figures need s) (length rows) (length heads) (bracket s rows heads key)
+        pub answer : r ≡ count_answer (needed figures need s) (lengths rows heads) (bracket s rows heads key)
         pub right : (past window : List K) → TrueTo s rows heads past window
             → Bracket (figures s).accuracy (length window) (true_count alike window key) (bracket s rows heads key)
         pub same : (past window : List K) → TrueTo s rows heads past window
@@ -77,10 +78,10 @@ module _ {S K : Type 0} (figures : S → Figures) (holds : S → List (Row K) �
       module _ (listing : S → List (Row K) → List Head → ℕ → List (Entry K)) where
         -- a list: its entries follow from record, tables and threshold, and are written over the front of the given list
         pub record Listed (s : S) (rows : List (Row K)) (heads : List Head) (threshold : ℕ) (list : List (Entry K)) (r : Result ℕ Refusal) (list' : List (Entry K)) : Type 0 where
-          pub answer : r ≡ list_answer (needed figures need s) (length rows) (length heads) (figures s) threshold (length list) (length (listing s rows heads threshold))
+          pub answer : r ≡ list_answer (needed figures need s) (lengths rows heads) (figures s) threshold (length list) (length (listing s rows heads threshold))
           pub written : is_ok r ≡ true → list' ≡ over (listing s rows heads threshold) list
           pub kept : is_ok r ≡ false → list' ≡ list
-          pub counts : short (needed figures need s) (length rows) (length heads) ≡ false → unfit (figures s) threshold ≡ false
+          pub counts : short (needed figures need s) (lengths rows heads) ≡ false → unfit (figures s) threshold ≡ false
               → AllByRecursion (λ e. bracket_in e ≡ bracket s rows heads e.key) (listing s rows heads threshold)
-          pub right : short (needed figures need s) (length rows) (length heads) ≡ false → unfit (figures s) threshold ≡ false → (past window : List K)
+          pub right : short (needed figures need s) (lengths rows heads) ≡ false → unfit (figures s) threshold ≡ false → (past window : List K)
               → TrueTo s rows heads past window → Lists alike (figures s).accuracy threshold window (listing s rows heads threshold)

@@ -1,30 +1,31 @@
 //! Whether a call is refused: what every keeper checks before it does anything.
 
 ghost use Rattle.std.specs.Prelude.{◌≡◌, Ok};
-ghost use Rattle.keeper.specs.Refusals.{count_answer, drop_answer, needed, put_answer, question_answer};
+ghost use Rattle.keeper.specs.Tables.{needed};
+ghost use Rattle.keeper.specs.Refusals.{count_answer, drop_answer, put_answer, question_answer};
 
 use crate::keeping::Record;
+use crate::lengths::Lengths;
 use crate::refusal::Refusal;
 
 // The most puts that a keeper counts: 2^30.
 const MOST_PUTS: u32 = 1 << 30;
 
-/// Whether a call is refused for tables of so many rows and heads. A count is refused for nothing else.
-pub fn admit_tables<P: Record>(keeper: &P, rows: usize, heads: usize) -> Result<(), Refusal>
-    ensures { result ≡ count_answer (needed P.Record.figures P.Record.need keeper.now) rows heads tt }
+/// Whether a call is refused for the tables that are lent. A count is refused for nothing else.
+pub fn admit_tables<P: Record>(keeper: &P, lent: Lengths) -> Result<(), Refusal>
+    ensures { result ≡ count_answer (needed P.Record.figures P.Record.need keeper.now) lent tt }
 {
-    let needs = keeper.needs();
-    if rows < needs.rows || heads < needs.heads {
+    if lent.is_short_of(&keeper.needs()) {
         return Err(Refusal::ShortTable);
     }
     Ok(())
 }
 
-/// Whether a put is refused, with tables of so many rows and heads.
-pub fn admit_put<P: Record>(keeper: &P, rows: usize, heads: usize) -> Result<(), Refusal>
-    ensures { result ≡ put_answer (needed P.Record.figures P.Record.need keeper.now) rows heads (P.Record.figures keeper.now) }
+/// Whether a put is refused, with the tables that are lent.
+pub fn admit_put<P: Record>(keeper: &P, lent: Lengths) -> Result<(), Refusal>
+    ensures { result ≡ put_answer (needed P.Record.figures P.Record.need keeper.now) lent (P.Record.figures keeper.now) }
 {
-    admit_tables(keeper, rows, heads)?;
+    admit_tables(keeper, lent)?;
     if keeper.puts() >= MOST_PUTS {
         return Err(Refusal::Spent);
     }
@@ -44,16 +45,11 @@ pub fn admit_drop<P: Record>(keeper: &P) -> Result<(), Refusal>
     Ok(())
 }
 
-/// Whether a list at a threshold is refused, with tables of so many rows and heads; all but a list that is too short.
-pub fn admit_list<P: Record>(
-    keeper: &P,
-    rows: usize,
-    heads: usize,
-    threshold: u32,
-) -> Result<(), Refusal>
-    ensures { result ≡ question_answer (needed P.Record.figures P.Record.need keeper.now) rows heads (P.Record.figures keeper.now) threshold (Ok tt) }
+/// Whether a list at a threshold is refused, with the tables that are lent; all but a list that is too short.
+pub fn admit_list<P: Record>(keeper: &P, lent: Lengths, threshold: u32) -> Result<(), Refusal>
+    ensures { result ≡ question_answer (needed P.Record.figures P.Record.need keeper.now) lent (P.Record.figures keeper.now) threshold (Ok tt) }
 {
-    admit_tables(keeper, rows, heads)?;
+    admit_tables(keeper, lent)?;
     let reach = (threshold as u64) << keeper.setting().accuracy();
     if threshold == 0 || reach < keeper.size() as u64 {
         return Err(Refusal::Threshold);

@@ -1,11 +1,4 @@
-//! What a keeper takes and gives: how much memory it needs, and the entries of a list.
-
-/// How long the lent tables have to be.
-#[derive(Clone, Copy, PartialEq, Eq, Debug)]
-pub struct Needs {
-    pub rows: usize,
-    pub heads: usize,
-}
+//! The entries of a list.
 
 /// A listed key, with the bracket around its true count.
 #[derive(Clone, Copy, Debug)]

@@ -4,12 +4,13 @@ ghost use Rattle.std.specs.Prelude.{◌≡◌, ℕ, List};
 ghost use Rattle.tally.specs.declared.rows.Head.{Head};
 ghost use Rattle.tally.specs.declared.rows.Row.{Row};
 ghost use Rattle.keeper.specs.declared.entry.Entry.{Entry};
-ghost use Rattle.keeper.specs.declared.entry.Needs.{Needs};
+ghost use Rattle.keeper.specs.declared.lengths.Lengths.{Lengths};
 ghost use Rattle.keeper.specs.Figures.{Figures};
-ghost use Rattle.keeper.specs.Refusals.{needed};
+ghost use Rattle.keeper.specs.Tables.{needed};
 ghost use Rattle.keeper.specs.Rules.{Counted, Dropped, Fresh, Listed, Put};
 
-use crate::entry::{Entry, Needs};
+use crate::entry::Entry;
+use crate::lengths::Lengths;
 use crate::refusal::Refusal;
 use crate::setting::Setting;
 use likeness::Likeness;
@@ -21,7 +22,7 @@ pub trait Record: Sized {
     ghost figures: { Self → Figures };
 
     // What the tables need: it follows from accuracy and span alone.
-    ghost need: { ℕ → ℕ → Needs };
+    ghost need: { ℕ → ℕ → Lengths };
 
     /// The setting that it was made from.
     fn setting(&self) -> Setting
@@ -36,7 +37,7 @@ pub trait Record: Sized {
         ensures { result ≡ (figures self.now).size };
 
     /// How long the tables have to be that are lent to it.
-    fn needs(&self) -> Needs
+    fn needs(&self) -> Lengths
         ensures { result ≡ needed figures need self.now };
 }
 

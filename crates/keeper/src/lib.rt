@@ -4,12 +4,13 @@
 mod admission;
 mod entry;
 mod keeping;
-mod limits;
+mod lengths;
 mod refusal;
 mod setting;
 
 pub use admission::{admit_drop, admit_list, admit_put, admit_tables};
-pub use entry::{Entry, Needs};
+pub use entry::Entry;
 pub use keeping::{Keeper, Record};
+pub use lengths::Lengths;
 pub use refusal::Refusal;
 pub use setting::Setting;

@@ -1,14 +1,61 @@
 //! What a keeper is made from.
 
-ghost use Rattle.std.specs.Prelude.{◌+◌, ◌≤◌};
+ghost use Rattle.std.specs.Prelude.{◌≡◌, ◌+◌, ◌≤◌};
+
+use crate::refusal::Refusal;
+use std::marker::Model;
 
 /// How exact a keeper is, and how long a window it can hold.
 ///
 /// At accuracy a the two ends of a count lie less than 1 / 2^a of the window's size apart; at span K the window holds
 /// up to 2^K keys. Whatever setting there is has both in range, so no later call looks again.
-#[derive(Clone, Copy)]
+#[derive(Clone, Copy, PartialEq, Eq, Debug)]
 pub struct Setting {
-    pub(super) accuracy: u32,
-    pub(super) span: u32,
-    ghost in_range: { (1 ≤ accuracy) × (accuracy ≤ 6) × (accuracy + 3 ≤ span) × (span ≤ 20) },
+    accuracy: u32,
+    span: u32,
+}
+
+impl Model for Setting {
+    ghost use Rattle.keeper.specs.Chosen.{Chosen, IsInRange};
+
+    ghost Value = { Chosen };
+
+    ghost view = { λ s. record { accuracy = s.accuracy; span = s.span } };
+
+    ghost invariant = { λ s. IsInRange s.accuracy s.span };
+
+    ghost inverse = { λ c. record { accuracy = c.accuracy; span = c.span } };
+}
+
+impl Setting {
+    ghost use Rattle.keeper.specs.Refusals.{Made};
+
+    /// A setting of accuracy 1 to 6 and span accuracy + 3 to 20; the accuracy is looked at first.
+    pub fn new(accuracy: u32, span: u32) -> Result<Setting, Refusal>
+        ensures { Made accuracy span result }
+    {
+        if !(1..=6).contains(&accuracy) {
+            return Err(Refusal::Accuracy);
+        }
+        if !(accuracy + 3..=20).contains(&span) {
+            return Err(Refusal::Span);
+        }
+        Ok(Setting { accuracy, span })
+    }
+
+    /// The accuracy, 1 to 6.
+    pub fn accuracy(&self) -> u32
+        ensures value { result ≡ self.now.accuracy }
+        ensures range { (1 ≤ result) × (result ≤ 6) }
+    {
+        self.accuracy
+    }
+
+    /// The span, accuracy + 3 to 20.
+    pub fn span(&self) -> u32
+        ensures value { result ≡ self.now.span }
+        ensures range { (self.now.accuracy + 3 ≤ result) × (result ≤ 20) }
+    {
+        self.span
+    }
 }
