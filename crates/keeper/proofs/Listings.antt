@@ -5,7 +5,8 @@ use Rattle.std.proofs.ByRecursion.{All-map, All-weaker, all_kept_by, kept_by_pas
 use Rattle.std.proofs.lemmas.List.{append-nil, map-append, take_more, length_push, take-append-drop, append_assoc}
 use Rattle.std.proofs.lemmas.List.Sums.{sum_by-cons, count_by-le-length}
 use Rattle.std.proofs.lemmas.Bool.{both_ways, cond_both, not-true, or_left, or_right, le-leb, leb-true}
-use Rattle.std.specs.List.{AllByRecursion}
+use Rattle.std.specs.List.{AllByRecursion, cons_option, enumerate_from, filter_map}
+use Rattle.std.proofs.Math.Seq.{take-append_seam}
 use Rattle.likeness.specs.Counts.{Stands, true_count}
 use Rattle.likeness.proofs.Counting.{true_count_same}
 use Rattle.keeper.specs.declared.entry.Entry.{Entry}
@@ -76,7 +77,11 @@ module _ {K : Type 0} (alike : K → K → Bool) where
     extended es None = es
     extended es (Some e) = es ++ e ∷ []
 
-    listed_push : (xs : List K) (k : K) → listed alike bracket threshold (xs ++ k ∷ []) ≡ extended (listed alike bracket threshold xs) (named_after alike bracket threshold xs k)
+    extended_front : (es : List (Entry K)) (o : Option (Entry K)) (more : List (Entry K)) → es ++ cons_option o more ≡ extended es o ++ more
+    extended_front es None more = refl
+    extended_front es (Some e) more = sym (append_assoc es (e ∷ []) more)
+
+    pub listed_push : (xs : List K) (k : K) → listed alike bracket threshold (xs ++ k ∷ []) ≡ extended (listed alike bracket threshold xs) (named_after alike bracket threshold xs k)
     unfolding entry high
     listed_push xs k = ap (λ ks. map entry (filter high ks)) (firsts_push xs k) ∙ ways (among alike xs k) (high k) refl
       where
@@ -88,6 +93,29 @@ module _ {K : Type 0} (alike : K → K → Bool) where
             ∙ map-append entry (filter high (firsts alike xs)) (k ∷ [])
         ways false false e =
             ap (map entry) (filter-append high (firsts alike xs) (k ∷ []) ∙ ap (λ t. filter high (firsts alike xs) ++ cond t (k ∷ []) []) e ∙ append-nil (filter high (firsts alike xs)))
+
+    -- what each place adds, behind the keys before it
+    adds : List K → ℕ × K → Option (Entry K)
+    adds keys p = named_after alike bracket threshold (take p.0 keys) p.1
+
+    listed_rest : (keys before rest : List K) → before ++ rest ≡ keys
+        → listed alike bracket threshold before ++ filter_map (adds keys) (enumerate_from (length before) rest) ≡ listed alike bracket threshold keys
+    unfolding adds
+    listed_rest keys before [] whole = append-nil _ ∙ ap (listed alike bracket threshold) (sym (append-nil before) ∙ whole)
+    listed_rest keys before (k ∷ rest) whole =
+        let here : take (length before) keys ≡ before = ap (take (length before)) (sym whole) ∙ take-append_seam before (k ∷ rest) in
+        let long : length before + 1 ≡ length (before ++ k ∷ []) = sym (length_push before k) in
+        let more = listed_rest keys (before ++ k ∷ []) rest (append_assoc before (k ∷ []) rest ∙ whole) in
+        ap (λ b. listed alike bracket threshold before ++ cons_option (named_after alike bracket threshold b k) (filter_map (adds keys) (enumerate_from (length before + 1) rest))) here
+        ∙ ap (λ n. listed alike bracket threshold before ++ cons_option (named_after alike bracket threshold before k) (filter_map (adds keys) (enumerate_from n rest))) long
+        ∙ extended_front (listed alike bracket threshold before) (named_after alike bracket threshold before k) _
+        ∙ ap (λ es. es ++ filter_map (adds keys) (enumerate_from (length (before ++ k ∷ [])) rest)) (sym (listed_push before k))
+        ∙ more
+
+    -- a list, place by place
+    pub listed_places : (keys : List K) → filter_map (λ p. named_after alike bracket threshold (take p.0 keys) p.1) (enumerate_from 0 keys) ≡ listed alike bracket threshold keys
+    unfolding adds
+    listed_places keys = listed_rest keys [] keys refl
 
     -- the key at place i, behind those before it
     pub listed_more : (xs : List K) (i : ℕ) (d : K) → i < length xs

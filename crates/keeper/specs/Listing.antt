@@ -1,6 +1,6 @@
 -- The entries of a list, from keys in some order and a bracket for each key. Assumes nothing.
-use Rattle.std.specs.Prelude.{◌≡◌, ℕ, Bool, false, cond, not, ◌||◌, leb, List, [], ◌∷◌, map, Some, None, filter, Option, nat_le}
-use Rattle.std.specs.List.{AllByRecursion}
+use Rattle.std.specs.Prelude.{◌≡◌, ℕ, Bool, false, cond, not, leb, List, [], ◌∷◌, map, Some, None, filter, Option, nat_le}
+use Rattle.std.specs.List.{AllByRecursion, list_any}
 use Rattle.keeper.specs.declared.entry.Entry.{Entry}
 
 -- the entry of a key with its bracket
@@ -19,8 +19,7 @@ module _ {K : Type 0} (alike : K → K → Bool) where
 
   -- whether some key of a list is alike to k
   abbrev pub among : List K → K → Bool
-  among [] k = false
-  among (x ∷ xs) k = alike x k || among xs k
+  among keys k = list_any (λ x. alike x k) keys
 
   -- the keys of a list by their first places: a key is passed over where one before it is alike
   abbrev pub firsts : List K → List K

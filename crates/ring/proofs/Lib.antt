@@ -1,4 +1,2 @@
-pub mod Exact
-pub mod Looking
-pub mod Moves
-pub mod Rounds
+pub mod Backwards
+pub mod Pieces

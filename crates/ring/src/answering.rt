@@ -1,50 +1,117 @@
-//! What a count and a list answer.
+//! What the ring does at each call. These stand apart from the trait's methods, so that what a keeper owes of its answers
+//! is owed at one return.
 
-ghost use Rattle.std.specs.Prelude.{◌≡◌, true, false, length, is_ok};
-ghost use Rattle.keeper.specs.Refusals.{count_answer, list_answer, needed};
+ghost use Rattle.std.specs.Prelude.{◌≡◌, ◌%◌, ◌^◌, ◌<◌, ◌≤◌, true, false, length, is_ok, if◌then◌else◌};
+ghost use Rattle.keeper.specs.Figures.{grown, shrunk};
+ghost use Rattle.keeper.specs.Refusals.{count_answer, drop_answer, list_answer, put_answer};
+ghost use Rattle.keeper.specs.Tables.{lengths, needed};
 ghost use Rattle.tally.specs.Slots.{over};
-ghost use Rattle.ring.specs.Rings.{exact_count, figures_of, listing_of, need_of};
+ghost use Rattle.ring.specs.Rings.{exactly, listing_of, need_of, stored, window_of};
 
 use crate::figures::Ring;
-use crate::naming::{count_entries, write_entries};
-use crate::reading::count_alike;
-use keeper::{Entry, Refusal, admit_list, admit_tables};
+use crate::window::Window;
+use keeper::{Entry, Lengths, Refusal, admit_drop, admit_list, admit_put, admit_tables};
 use likeness::Likeness;
-use tally::Row;
+use tally::{Head, Row};
 
-// These stand apart from the ring's own methods, so that what a keeper owes of its answers is owed at one return.
-
-// The answer of a count.
-pub(crate) fn answer_count<K: Likeness>(
-    ring: &Ring,
-    rows: &[Row<K>],
-    heads: usize,
-    key: &K,
-) -> Result<(u32, u32), Refusal>
-    ensures { result ≡ count_answer (needed figures_of need_of ring.now) (length rows.now) heads (exact_count K.alike ring.now rows.now key.now) }
-{
-    admit_tables(ring, rows.len(), heads)?;
-    let count = count_alike(ring, rows, key);
-    Ok((count, count))
-}
-
-// The answer of a list, and its entries.
-pub(crate) fn answer_list<K: Likeness>(
-    ring: &Ring,
-    rows: &[Row<K>],
-    heads: usize,
-    threshold: u32,
-    list: &mut [Entry<K>],
-) -> Result<usize, Refusal>
-    ensures answer { result ≡ list_answer (needed figures_of need_of ring.now) (length rows.now) heads (figures_of ring.now) threshold (length list.old) (length (listing_of K.alike ring.now rows.now threshold)) }
-    ensures written { is_ok result ≡ true → list.new ≡ over (listing_of K.alike ring.now rows.now threshold) list.old }
-    ensures kept { is_ok result ≡ false → list.new ≡ list.old }
-{
-    admit_list(ring, rows.len(), heads, threshold)?;
-    let named = count_entries(ring, rows, threshold);
-    if list.len() < named {
-        return Err(Refusal::ShortList);
+impl Ring {
+    // How many rows it uses, in turn: as many as its window can hold keys.
+    pub(crate) fn capacity(&self) -> usize
+        ensures value { result ≡ 2 ^ self.now.span }
+        ensures some { 1 ≤ result }
+    {
+        1 << self.setting.span()
     }
-    write_entries(ring, rows, threshold, list);
-    Ok(named)
+
+    // The row of the next put.
+    fn next_row(&self) -> usize
+        ensures value { result ≡ self.now.puts % 2 ^ self.now.span }
+        ensures within { result < 2 ^ self.now.span }
+    {
+        self.puts as usize % self.capacity()
+    }
+
+    // The window, in a table that is long enough.
+    fn window<'a, K: Likeness>(&self, rows: &'a [Row<K>]) -> Window<'a, K>
+        requires { 2 ^ self.now.span ≤ length rows.now }
+        ensures { result ≡ window_of self.now rows.now }
+    {
+        let end = self.next_row();
+        let size = self.size as usize;
+        if size <= end {
+            return Window {
+                older: &rows[end - size..end],
+                newer: &[],
+            };
+        }
+        let capacity = self.capacity();
+        Window {
+            older: &rows[capacity - (size - end)..capacity],
+            newer: &rows[..end],
+        }
+    }
+
+    // A key takes the row of its put.
+    pub(crate) fn store<K: Likeness>(
+        &mut self,
+        rows: &mut [Row<K>],
+        heads: &[Head],
+        key: K,
+    ) -> Result<(), Refusal>
+        ensures answer { result ≡ put_answer (needed (λ s. s) need_of self.old) (lengths rows.old heads.now) self.old }
+        ensures tells { self.new ≡ (if is_ok result then grown self.old else self.old) }
+        ensures rows { rows.new ≡ (if is_ok result then stored self.old rows.old key else rows.old) }
+    {
+        admit_put(self, Lengths::of(rows, heads))?;
+        rows[self.next_row()] = Row { key, count: 1 };
+        self.puts += 1;
+        self.size += 1;
+        Ok(())
+    }
+
+    // The oldest key is no longer the window's. Its row stays as it is.
+    pub(crate) fn forget(&mut self) -> Result<(), Refusal>
+        ensures answer { result ≡ drop_answer self.old }
+        ensures tells { self.new ≡ (if is_ok result then shrunk self.old else self.old) }
+    {
+        admit_drop(self)?;
+        self.size -= 1;
+        Ok(())
+    }
+
+    // The answer of a count.
+    pub(crate) fn answer_count<K: Likeness>(
+        &self,
+        rows: &[Row<K>],
+        heads: &[Head],
+        key: &K,
+    ) -> Result<(u32, u32), Refusal>
+        ensures { result ≡ count_answer (needed (λ s. s) need_of self.now) (lengths rows.now heads.now) (exactly K.alike (window_of self.now rows.now) key.now) }
+    {
+        admit_tables(self, Lengths::of(rows, heads))?;
+        let count = self.window(rows).count_alike(key);
+        Ok((count, count))
+    }
+
+    // The answer of a list, and its entries.
+    pub(crate) fn answer_list<K: Likeness>(
+        &self,
+        rows: &[Row<K>],
+        heads: &[Head],
+        threshold: u32,
+        list: &mut [Entry<K>],
+    ) -> Result<usize, Refusal>
+        ensures answer { result ≡ list_answer (needed (λ s. s) need_of self.now) (lengths rows.now heads.now) self.now threshold (length list.old) (length (listing_of K.alike (window_of self.now rows.now) threshold)) }
+        ensures written { is_ok result ≡ true → list.new ≡ over (listing_of K.alike (window_of self.now rows.now) threshold) list.old }
+        ensures kept { is_ok result ≡ false → list.new ≡ list.old }
+    {
+        admit_list(self, Lengths::of(rows, heads), threshold)?;
+        let window = self.window(rows);
+        let named = window.count_entries(threshold);
+        if list.len() < named {
+            return Err(Refusal::ShortList);
+        }
+        window.write_entries(threshold, list);
+        Ok(named)
+    }
 }

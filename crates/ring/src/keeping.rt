@@ -2,21 +2,44 @@
 
 ghost use Rattle.std.specs.Prelude.{◌≡◌, is_ok, if◌then◌else◌};
 ghost use Rattle.keeper.specs.Rules.{Put};
-ghost use Rattle.ring.specs.Rings.{exact_count, figures_of, HoldsWindow, listing_of, need_of, stored};
+ghost use Rattle.ring.specs.Rings.{exactly, HoldsWindow, listing_of, need_of, stored, window_of};
 
-use crate::answering::{answer_count, answer_list};
 use crate::figures::Ring;
-use crate::moving::{forget, store};
-use keeper::{Entry, Keeper, Refusal, Setting};
+use keeper::{Entry, Keeper, Lengths, Record, Refusal, Setting};
 use likeness::Likeness;
 use tally::{Head, Row};
+
+impl Record for Ring {
+    ghost figures = { λ s. s };
+
+    ghost need = { need_of };
+
+    fn setting(&self) -> Setting {
+        self.setting
+    }
+
+    fn puts(&self) -> u32 {
+        self.puts
+    }
+
+    fn size(&self) -> u32 {
+        self.size
+    }
+
+    fn needs(&self) -> Lengths {
+        Lengths {
+            rows: self.capacity(),
+            heads: 0,
+        }
+    }
+}
 
 impl<K: Likeness> Keeper<K> for Ring {
     ghost holds = { HoldsWindow };
 
-    ghost bracket = { λ s rows heads key. exact_count K.Likeness.alike s rows key };
+    ghost bracket = { λ s rows heads key. exactly K.Likeness.alike (window_of s rows) key };
 
-    ghost listing = { λ s rows heads threshold. listing_of K.Likeness.alike s rows threshold };
+    ghost listing = { λ s rows heads threshold. listing_of K.Likeness.alike (window_of s rows) threshold };
 
     fn fresh(setting: Setting) -> Ring {
         Ring {
@@ -27,19 +50,19 @@ impl<K: Likeness> Keeper<K> for Ring {
     }
 
     fn put(&mut self, rows: &mut [Row<K>], heads: &mut [Head], key: K) -> Result<(), Refusal>
-        ensures keeper { Put figures_of HoldsWindow need_of self.old rows.old heads.old key result self.new rows.new heads.new }
+        ensures keeper { Put (λ s. s) HoldsWindow need_of self.old rows.old heads.old key result self.new rows.new heads.new }
         ensures rows { rows.new ≡ (if is_ok result then stored self.old rows.old key else rows.old) }
         ensures heads { heads.new ≡ heads.old }
     {
-        store(self, rows, heads.len(), key)
+        self.store(rows, heads, key)
     }
 
     fn drop_oldest(&mut self) -> Result<(), Refusal> {
-        forget(self)
+        self.forget()
     }
 
     fn count(&self, rows: &[Row<K>], heads: &[Head], key: &K) -> Result<(u32, u32), Refusal> {
-        answer_count(self, rows, heads.len(), key)
+        self.answer_count(rows, heads, key)
     }
 
     fn list(
@@ -49,6 +72,6 @@ impl<K: Likeness> Keeper<K> for Ring {
         threshold: u32,
         list: &mut [Entry<K>],
     ) -> Result<usize, Refusal> {
-        answer_list(self, rows, heads.len(), threshold, list)
+        self.answer_list(rows, heads, threshold, list)
     }
 }

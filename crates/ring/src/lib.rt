@@ -4,9 +4,6 @@
 mod answering;
 mod figures;
 mod keeping;
-mod moving;
-mod naming;
-mod reading;
-mod telling;
+mod window;
 
 pub use figures::Ring;
