@@ -1,5 +1,5 @@
 -- Looking back through keys finds what looking forth does. Assumes nothing.
-use Rattle.std.proofs.Common.{◌≡◌, Bool, List, [], ◌∷◌, ◌++◌, length, reverse, Some, None, sym, ap, ◌∙◌}
+use Rattle.std.proofs.Common.{◌≡◌, Bool, List, [], ◌∷◌, length, reverse, sym, ap, ◌∙◌}
 use Rattle.std.specs.Iterator.{YieldsLast}
 use Rattle.std.specs.Iterator.Adapters.{rev_source, rev_steps}
 use Rattle.std.specs.List.{list_any}

@@ -1,4 +1,4 @@
-use Rattle.std.proofs.Common.{rules, tests, reverse, ap, ◌∙◌}
+use Rattle.std.proofs.Common.{rules, tests, ap, ◌∙◌}
 use Rattle.std.specs.List.{list_any}
 use Rattle.std.specs.Iterator.Adapters.{rev_source}
 use Rattle.std.proofs.lemmas.Iterator.Search.{any_from_yields_List}
