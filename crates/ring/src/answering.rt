@@ -16,7 +16,7 @@ use tally::{Head, Row};
 
 impl Ring {
     // How many rows it uses, in turn: as many as its window can hold keys.
-    pub(crate) fn capacity(&self) -> usize
+    pub(crate) fn capacity(&self) -> u32
         ensures value { result ≡ 2 ^ self.now.span }
         ensures some { 1 ≤ result }
     {
@@ -28,7 +28,7 @@ impl Ring {
         ensures value { result ≡ self.now.puts % 2 ^ self.now.span }
         ensures within { result < 2 ^ self.now.span }
     {
-        self.puts as usize % self.capacity()
+        (self.puts % self.capacity()) as usize
     }
 
     // The window, in a table that is long enough.
@@ -44,7 +44,7 @@ impl Ring {
                 newer: &[],
             };
         }
-        let capacity = self.capacity();
+        let capacity = self.capacity() as usize;
         Window {
             older: &rows[capacity - (size - end)..capacity],
             newer: &rows[..end],

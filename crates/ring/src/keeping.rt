@@ -28,7 +28,7 @@ impl Record for Ring {
 
     fn needs(&self) -> Lengths {
         Lengths {
-            rows: self.capacity(),
+            rows: self.capacity() as usize,
             heads: 0,
         }
     }
