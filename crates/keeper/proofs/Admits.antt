@@ -3,11 +3,7 @@ use Rattle.std.proofs.Common.{◌≡◌, ℕ, ◌^◌, ◌<◌, ◌≤◌, true,
 use Rattle.std.proofs.lemmas.Bool.Decides.{nat_tests}
 use Rattle.keeper.specs.declared.lengths.Lengths.{Lengths}
 use Rattle.keeper.specs.Figures.{Figures}
-use Rattle.keeper.specs.Tables.{short}
 use Rattle.keeper.specs.Refusals.{unfit, put_answer}
-
-pub not_short : (need lent : Lengths) → short need lent ≡ false → need.rows ≤ lent.rows
-not_short need lent e = grind (arith, nat_tests)
 
 pub not_unfit : (f : Figures) (threshold : ℕ) → unfit f threshold ≡ false → 1 ≤ threshold
 not_unfit f threshold e = grind (arith, nat_tests)

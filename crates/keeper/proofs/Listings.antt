@@ -1,8 +1,8 @@
 -- The entries of a list: one key after another, and why they are right as the list of a window. Assumes nothing, but for the last part, which takes alike to be symmetric and transitive.
-use Rattle.std.proofs.Common.{◌≡◌, ℕ, ◌+◌, ◌-◌, ◌*◌, ◌^◌, ◌<◌, ◌≤◌, Bool, true, false, cond, not, ◌||◌, leb, List, [], ◌∷◌, ◌++◌, map, length, get_or, take, drop, Some, None, filter, Option, sym, refl, ap, ◌∙◌, subst, mul-le-mul_left, arith}
+use Rattle.std.proofs.Common.{◌≡◌, ℕ, ◌+◌, ◌-◌, ◌*◌, ◌^◌, ◌<◌, ◌≤◌, Bool, true, false, cond, not, ◌||◌, leb, List, [], ◌∷◌, ◌++◌, map, length, take, drop, Some, None, filter, Option, sym, refl, ap, ◌∙◌, subst, mul-le-mul_left, arith}
 use Rattle.std.proofs.lemmas.List.Elements.{filter-append}
 use Rattle.std.proofs.ByRecursion.{All-map, All-weaker, all_kept_by, kept_by_passes}
-use Rattle.std.proofs.lemmas.List.{append-nil, map-append, take_more, length_push, take-append-drop, append_assoc}
+use Rattle.std.proofs.lemmas.List.{append-nil, map-append, length_push, take-append-drop, append_assoc}
 use Rattle.std.proofs.lemmas.List.Sums.{sum_by-cons, count_by-le-length}
 use Rattle.std.proofs.lemmas.Bool.{both_ways, cond_both, not-true, or_left, or_right, le-leb, leb-true}
 use Rattle.std.specs.List.{AllByRecursion, cons_option, enumerate_from, filter_map}
@@ -117,11 +117,6 @@ module _ {K : Type 0} (alike : K → K → Bool) where
     unfolding adds
     listed_places keys = listed_rest keys [] keys refl
 
-    -- the key at place i, behind those before it
-    pub listed_more : (xs : List K) (i : ℕ) (d : K) → i < length xs
-        → listed alike bracket threshold (take (i + 1) xs) ≡ extended (listed alike bracket threshold (take i xs)) (named_after alike bracket threshold (take i xs) (get_or xs i d))
-    listed_more xs i d within = ap (listed alike bracket threshold) (take_more xs i d within) ∙ listed_push (take i xs) (get_or xs i d)
-
     extended_longer : (es : List (Entry K)) (o : Option (Entry K)) → length es ≤ length (extended es o)
     extended_longer es None = omega arith
     extended_longer es (Some e) = omega (arith, length_push es e)
@@ -146,14 +141,6 @@ module _ {K : Type 0} (alike : K → K → Bool) where
     listed_keys : (ks : List K) → map (λ e. e.key) (map (λ k. entry_of k (bracket k)) ks) ≡ ks
     listed_keys [] = refl
     listed_keys (k ∷ ks) = ap (λ xs. k ∷ xs) (listed_keys ks)
-
-  -- a key that stands in a window is alike to one of its keys
-  pub stands_among : (xs : List K) (k : K) → Stands alike xs k → among alike xs k ≡ true
-  stands_among [] k h = absurd (omega arith)
-  stands_among (x ∷ xs) k h =
-      let again = stands_among xs k in
-      let sum = sum_by-cons (λ y. cond (alike y k) 1 0) x xs in
-      grind arith
 
   -- each key of a window stands in it
   pub all_stand : ((x : K) → alike x x ≡ true) → (xs : List K) → AllByRecursion (Stands alike xs) xs

@@ -1,5 +1,5 @@
 -- The entries of a list, from keys in some order and a bracket for each key. Assumes nothing.
-use Rattle.std.specs.Prelude.{◌≡◌, ℕ, Bool, false, cond, not, leb, List, [], ◌∷◌, map, Some, None, filter, Option, nat_le}
+use Rattle.std.specs.Prelude.{◌≡◌, ℕ, Bool, false, if◌then◌else◌, not, List, [], ◌∷◌, map, Some, None, filter, Option, nat_le}
 use Rattle.std.specs.List.{AllByRecursion, list_any}
 use Rattle.keeper.specs.declared.entry.Entry.{Entry}
 
@@ -28,8 +28,11 @@ module _ {K : Type 0} (alike : K → K → Bool) where
 
   -- the entries for those keys that may count `threshold` or more
   abbrev pub listed : (K → ℕ × ℕ) → ℕ → List K → List (Entry K)
-  listed bracket threshold keys = map (λ k. entry_of k (bracket k)) (filter (λ k. leb threshold (bracket k).1) (firsts keys))
+  listed bracket threshold keys = map (λ k. entry_of k (bracket k)) (filter (λ k. nat_le threshold (bracket k).1) (firsts keys))
 
   -- the entry that one key more adds, behind the keys `before`
   abbrev pub named_after : (K → ℕ × ℕ) → ℕ → List K → K → Option (Entry K)
-  named_after bracket threshold before k = cond (among before k) None (cond (nat_le threshold (bracket k).1) (Some (entry_of k (bracket k))) None)
+  named_after bracket threshold before k =
+      if among before k then None
+      else if nat_le threshold (bracket k).1 then Some (entry_of k (bracket k))
+      else None

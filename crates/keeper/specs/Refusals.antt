@@ -1,5 +1,5 @@
 -- Which calls are refused, and as what: for code and promises alike. Where several reasons hold, the lowest number is told, but for a list that is too short, which comes last. Assumes nothing.
-use Rattle.std.specs.Prelude.{◌≡◌, ℕ, ◌+◌, ◌*◌, ◌^◌, Bool, cond, ◌||◌, Some, None, Ok, Err, Option, Result, ◌==◌, nat_le, nat_lt}
+use Rattle.std.specs.Prelude.{◌≡◌, ℕ, ◌+◌, ◌*◌, ◌^◌, Bool, if◌then◌else◌, ◌||◌, Some, None, Ok, Err, Option, Result, ◌==◌, nat_le, nat_lt}
 use Rattle.keeper.specs.declared.lengths.Lengths.{Lengths}
 use Rattle.keeper.specs.declared.refusal.Refusal.{Refusal}
 use Rattle.keeper.specs.declared.refusal.Refusal.TheVariants.{Accuracy, Span, ShortTable, ShortList, Spent, Full, Vacant, Threshold}
@@ -20,7 +20,10 @@ number_of Threshold = 10
 
 -- why there is no setting of accuracy a and span k, if there is none
 abbrev pub unset : ℕ → ℕ → Option Refusal
-unset a k = cond (nat_lt a 1 || nat_lt 6 a) (Some Accuracy) (cond (nat_lt k (a + 3) || nat_lt 20 k) (Some Span) None)
+unset a k =
+    if nat_lt a 1 || nat_lt 6 a then Some Accuracy
+    else if nat_lt k (a + 3) || nat_lt 20 k then Some Span
+    else None
 
 -- a setting is made of just these two numbers, unless there is a reason why not
 abbrev pub Made : ℕ → ℕ → Result Setting Refusal → Type 0
@@ -38,21 +41,25 @@ unfit f threshold = threshold == 0 || nat_lt (threshold * 2 ^ f.accuracy) f.size
 -- what a put, a drop, a count and a list answer, by what is needed of the tables and what is lent
 abbrev pub put_answer : Lengths → Lengths → Figures → Result (Unit {0}) Refusal
 put_answer need lent f =
-    cond (short need lent) (Err ShortTable)
-    (cond (nat_le most_puts f.puts) (Err Spent)
-    (cond (nat_le (2 ^ f.span) f.size) (Err Full) (Ok tt)))
+    if short need lent then Err ShortTable
+    else if nat_le most_puts f.puts then Err Spent
+    else if nat_le (2 ^ f.span) f.size then Err Full
+    else Ok tt
 
 abbrev pub drop_answer : Figures → Result (Unit {0}) Refusal
-drop_answer f = cond (f.size == 0) (Err Vacant) (Ok tt)
+drop_answer f = if f.size == 0 then Err Vacant else Ok tt
 
 -- `value` is what is answered where nothing is refused
 abbrev pub count_answer : {X : Type 0} → Lengths → Lengths → X → Result X Refusal
-count_answer need lent value = cond (short need lent) (Err ShortTable) (Ok value)
+count_answer need lent value = if short need lent then Err ShortTable else Ok value
 
 -- a list with these tables and at this threshold; `rest` is what is answered where neither is refused
 abbrev pub question_answer : {X : Type 0} → Lengths → Lengths → Figures → ℕ → Result X Refusal → Result X Refusal
-question_answer need lent f threshold rest = cond (short need lent) (Err ShortTable) (cond (unfit f threshold) (Err Threshold) rest)
+question_answer need lent f threshold rest =
+    if short need lent then Err ShortTable
+    else if unfit f threshold then Err Threshold
+    else rest
 
 -- `room` entries can be written, and `named` are to be
 abbrev pub list_answer : Lengths → Lengths → Figures → ℕ → ℕ → ℕ → Result ℕ Refusal
-list_answer need lent f threshold room named = question_answer need lent f threshold (cond (nat_lt room named) (Err ShortList) (Ok named))
+list_answer need lent f threshold room named = question_answer need lent f threshold (if nat_lt room named then Err ShortList else Ok named)
