@@ -41,6 +41,7 @@ pub trait Record: Sized {
         ensures { result ≡ needed figures need self.now };
 }
 
+// The two tables go side by side: a struct of two `&mut` would be made anew for each call, and its clauses speak of loans.
 /// A window counter. Its record holds numbers only; the tables are the caller's, who lends the same ones to each call
 /// and writes nothing to them in between.
 pub trait Keeper<K: Likeness>: Record {

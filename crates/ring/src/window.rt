@@ -130,6 +130,7 @@ impl<'a, K: Likeness> Window<'a, K> {
         requires { length (listing_of K.alike self.now threshold) ≤ length list.old }
         ensures { list.new ≡ over (listing_of K.alike self.now threshold) list.old }
     {
+        // Counted by hand: over the chain of entries, numbered by `enumerate`, the check cannot write the loop's goals.
         let mut named = 0;
         for (place, key) in self.keys().enumerate() {
             if let Some(entry) = self.entry(place, key, threshold) {
