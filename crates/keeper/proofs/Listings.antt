@@ -1,25 +1,16 @@
 -- The entries of a list: one key after another, and why they are right as the list of a window. Assumes nothing, but for the last part, which takes alike to be symmetric and transitive.
 use Rattle.std.proofs.Common.{◌≡◌, ℕ, ◌+◌, ◌-◌, ◌*◌, ◌^◌, ◌<◌, ◌≤◌, Bool, true, false, cond, not, ◌||◌, leb, List, [], ◌∷◌, ◌++◌, map, length, take, drop, Some, None, filter, Option, sym, refl, ap, ◌∙◌, subst, mul-le-mul_left, arith}
-use Rattle.std.proofs.lemmas.List.Elements.{filter-append}
-use Rattle.std.proofs.ByRecursion.{All-map, All-weaker, all_kept_by, kept_by_passes}
+use Rattle.std.proofs.lemmas.List.Elements.{filter-append, All-nil, All-cons, All-head, All-tail, All-filter, All-map, All-weaker, filter_passes}
 use Rattle.std.proofs.lemmas.List.{append-nil, map-append, length_push, take-append-drop, append_assoc}
 use Rattle.std.proofs.lemmas.List.Sums.{sum_by-cons, count_by-le-length}
 use Rattle.std.proofs.lemmas.Bool.{both_ways, cond_both, not-true, or_left, or_right, le-leb, leb-true}
-use Rattle.std.specs.List.{AllByRecursion, cons_option, enumerate_from, filter_map}
+use Rattle.std.specs.List.{All, cons_option, enumerate_from, filter_map}
 use Rattle.std.proofs.Math.Seq.{take-append_seam}
 use Rattle.likeness.specs.Counts.{Stands, true_count}
 use Rattle.likeness.proofs.Counting.{true_count_same}
 use Rattle.keeper.specs.declared.entry.Entry.{Entry}
 use Rattle.keeper.specs.Listing.{Apart, among, firsts, listed, named_after, entry_of, bracket_in}
 use Rattle.keeper.specs.Rules.{Bracket, Lists}
-
-all_both : {X : Type 0} (P Q : X → Type 0) (xs : List X) → AllByRecursion P xs → AllByRecursion Q xs → AllByRecursion (λ x. P x × Q x) xs
-all_both P Q [] p q = tt
-all_both P Q (x ∷ xs) p q = ((p.0, q.0), all_both P Q xs p.1 q.1)
-
-all_of : {X : Type 0} (P : X → Type 0) → ((x : X) → P x) → (xs : List X) → AllByRecursion P xs
-all_of P h [] = tt
-all_of P h (x ∷ xs) = (h x, all_of P h xs)
 
 module _ {K : Type 0} (alike : K → K → Bool) where
   first_more : (test : K → Bool) (x k : K) (ys : List K) (a b : Bool) → test k ≡ not a
@@ -38,21 +29,21 @@ module _ {K : Type 0} (alike : K → K → Bool) where
       ap (λ ys. x ∷ filter (λ other. not (alike x other)) ys) (firsts_push xs k)
       ∙ first_more (λ other. not (alike x other)) x k (firsts alike xs) (alike x k) (among alike xs k) refl
 
-  all_firsts : (P : K → Type 0) (xs : List K) → AllByRecursion P xs → AllByRecursion P (firsts alike xs)
-  all_firsts P [] h = tt
-  all_firsts P (x ∷ xs) h = (h.0, all_kept_by (λ other. not (alike x other)) P (firsts alike xs) (all_firsts P xs h.1))
+  all_firsts : (P : K → Type 0) (xs : List K) → All P xs → All P (firsts alike xs)
+  all_firsts P [] h = All-nil P
+  all_firsts P (x ∷ xs) h = All-cons P x _ (All-head P x xs h) (All-filter (λ other. not (alike x other)) P (firsts alike xs) (all_firsts P xs (All-tail P x xs h)))
 
   apart_kept : (test : K → Bool) (xs : List K) → Apart alike xs → Apart alike (filter test xs)
   apart_kept test [] h = tt
   apart_kept test (x ∷ xs) h =
       let again = apart_kept test xs h.1 in
-      cond_both (test x) _ _ (Apart alike) (λ _. (all_kept_by test (λ other. alike x other ≡ false) xs h.0, again)) (λ _. again)
+      cond_both (test x) _ _ (Apart alike) (λ _. (All-filter test (λ other. alike x other ≡ false) xs h.0, again)) (λ _. again)
 
   firsts_apart : (xs : List K) → Apart alike (firsts alike xs)
   firsts_apart [] = tt
   firsts_apart (x ∷ xs) =
       let test : K → Bool = λ other. not (alike x other) in
-      (All-weaker (λ other. test other ≡ true) (λ other. alike x other ≡ false) (λ other. not-true (alike x other)) (filter test (firsts alike xs)) (kept_by_passes test (firsts alike xs)), apart_kept test (firsts alike xs) (firsts_apart xs))
+      (All-weaker (λ other. test other ≡ true) (λ other. alike x other ≡ false) (λ other. not-true (alike x other)) (filter test (firsts alike xs)) (filter_passes test (firsts alike xs)), apart_kept test (firsts alike xs) (firsts_apart xs))
 
   among_kept : (test : K → Bool) (xs : List K) (k : K) → ((x : K) → alike x k ≡ true → test x ≡ true) → among alike xs k ≡ true → among alike (filter test xs) k ≡ true
   among_kept test [] k pass h = h
@@ -135,21 +126,21 @@ module _ {K : Type 0} (alike : K → K → Bool) where
     listed_front xs i = subst (λ zs. length (listed alike bracket threshold (take i xs)) ≤ length (listed alike bracket threshold zs)) (take-append-drop i xs) (listed_longer (take i xs) (drop i xs))
 
     -- each entry has its key's bracket
-    pub listed_counts : (xs : List K) → AllByRecursion (λ e. bracket_in e ≡ bracket e.key) (listed alike bracket threshold xs)
-    listed_counts xs = All-map (λ e. bracket_in e ≡ bracket e.key) (λ k. entry_of k (bracket k)) _ (all_of (λ k. bracket k ≡ bracket k) (λ _. refl) _)
+    pub listed_counts : (xs : List K) → All (λ e. bracket_in e ≡ bracket e.key) (listed alike bracket threshold xs)
+    listed_counts xs = All-map (λ e. bracket_in e ≡ bracket e.key) (λ k. entry_of k (bracket k)) _ (λ _ _ _. refl)
 
     listed_keys : (ks : List K) → map (λ e. e.key) (map (λ k. entry_of k (bracket k)) ks) ≡ ks
     listed_keys [] = refl
     listed_keys (k ∷ ks) = ap (λ xs. k ∷ xs) (listed_keys ks)
 
   -- each key of a window stands in it
-  pub all_stand : ((x : K) → alike x x ≡ true) → (xs : List K) → AllByRecursion (Stands alike xs) xs
-  all_stand self [] = tt
+  pub all_stand : ((x : K) → alike x x ≡ true) → (xs : List K) → All (Stands alike xs) xs
+  all_stand self [] = All-nil _
   all_stand self (x ∷ xs) =
       let here = self x in
       let sum : (k : K) → true_count alike (x ∷ xs) k ≡ cond (alike x k) 1 0 + true_count alike xs k = λ k. sum_by-cons (λ y. cond (alike y k) 1 0) x xs in
       let own = sum x in
-      (grind arith, All-weaker (Stands alike xs) (Stands alike (x ∷ xs)) (λ k h. omega (arith, sum k)) xs (all_stand self xs))
+      All-cons (Stands alike (x ∷ xs)) x xs (grind arith) (All-weaker (Stands alike xs) (Stands alike (x ∷ xs)) (λ k h. omega (arith, sum k)) xs (all_stand self xs))
 
   module _ (symm : (x y : K) → alike x y ≡ true → alike y x ≡ true) (tran : (x y z : K) → alike x y ≡ true → alike y z ≡ true → alike x z ≡ true) where
     among_firsts : (xs : List K) (k : K) → among alike xs k ≡ true → among alike (firsts alike xs) k ≡ true
@@ -168,13 +159,13 @@ module _ {K : Type 0} (alike : K → K → Bool) where
     -- brackets that are right for a window, and keys that stand in it and miss none that counts the threshold: the list is right
     pub listed_lists : (a threshold : ℕ) (bracket : K → ℕ × ℕ) (keys window : List K)
         → ((k : K) → Bracket a (length window) (true_count alike window k) (bracket k))
-        → AllByRecursion (Stands alike window) keys
+        → All (Stands alike window) keys
         → ((k : K) → threshold ≤ true_count alike window k → among alike keys k ≡ true)
         → Lists alike a threshold window (listed alike bracket threshold keys)
     listed_lists a threshold bracket keys window right stand cover =
         let test : K → Bool = λ k. leb threshold (bracket k).1 in
         let named : List K = filter test (firsts alike keys) in
-        let standing : AllByRecursion (Stands alike window) named = all_kept_by test (Stands alike window) (firsts alike keys) (all_firsts (Stands alike window) keys stand) in
+        let standing : All (Stands alike window) named = All-filter test (Stands alike window) (firsts alike keys) (all_firsts (Stands alike window) keys stand) in
         let near_threshold : (k : K) → threshold ≤ (bracket k).1 → Stands alike window k → 2 ^ a * (threshold - true_count alike window k) < length window =
         λ k high stands.
         let gap : threshold - true_count alike window k ≤ (bracket k).1 - (bracket k).0 = omega (arith, (right k).floor) in
@@ -187,9 +178,7 @@ module _ {K : Type 0} (alike : K → K → Bool) where
               (λ x near. le-leb _ _ (omega (arith, true_count_same alike symm tran window x k near, (right x).ceiling)))
               (among_firsts keys k (cover k enough)));
           stand = All-map (λ e. Stands alike window e.key) (λ k. entry_of k (bracket k)) named standing;
-          near = All-map (λ e. 2 ^ a * (threshold - true_count alike window e.key) < length window) (λ k. entry_of k (bracket k)) named (
-              All-weaker (λ k. (test k ≡ true) × Stands alike window k) (λ k. 2 ^ a * (threshold - true_count alike window k) < length window)
-              (λ k h. near_threshold k (leb-true threshold (bracket k).1 h.0) h.1)
-              named (all_both _ _ named (kept_by_passes test (firsts alike keys)) standing));
-          brackets = All-map (λ e. Bracket a (length window) (true_count alike window e.key) (bracket_in e)) (λ k. entry_of k (bracket k)) named (all_of (λ k. Bracket a (length window) (true_count alike window k) (bracket k)) right named);
+          near = All-map (λ e. 2 ^ a * (threshold - true_count alike window e.key) < length window) (λ k. entry_of k (bracket k)) named
+              (λ i d within. near_threshold _ (leb-true threshold _ (filter_passes test (firsts alike keys) i d within)) (standing i d within));
+          brackets = All-map (λ e. Bracket a (length window) (true_count alike window e.key) (bracket_in e)) (λ k. entry_of k (bracket k)) named (λ i d within. right _);
         }

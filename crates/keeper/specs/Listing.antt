@@ -1,6 +1,6 @@
 -- The entries of a list, from keys in some order and a bracket for each key. Assumes nothing.
-use Rattle.std.specs.Prelude.{◌≡◌, ℕ, Bool, false, if◌then◌else◌, not, List, [], ◌∷◌, map, Some, None, filter, Option, nat_le}
-use Rattle.std.specs.List.{AllByRecursion, list_any}
+use Rattle.std.specs.Prelude.{◌≡◌, ℕ, Bool, false, if◌then◌else◌, not, List, [], ◌∷◌, map, Some, None, filter, Option, nat_le, All}
+use Rattle.std.specs.List.{list_any}
 use Rattle.keeper.specs.declared.entry.Entry.{Entry}
 
 -- the entry of a key with its bracket
@@ -15,7 +15,7 @@ module _ {K : Type 0} (alike : K → K → Bool) where
   -- no two keys are alike
   abbrev pub Apart : List K → Type 0
   Apart [] = Unit {0}
-  Apart (k ∷ ks) = AllByRecursion (λ other. alike k other ≡ false) ks × Apart ks
+  Apart (k ∷ ks) = All (λ other. alike k other ≡ false) ks × Apart ks
 
   -- whether some key of a list is alike to k
   abbrev pub among : List K → K → Bool

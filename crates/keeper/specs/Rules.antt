@@ -1,8 +1,7 @@
 -- What makes a keeper: the contracts of its calls. Assumes nothing.
 --
 -- A keeper has a record of numbers, and works on a row table and a head table that the caller lends. `holds` is the keeper's own account of when record and tables are true to a window, after the keys of a past were let go, both oldest first; nothing is known of it but what these contracts say.
-use Rattle.std.specs.Prelude.{◌≡◌, ℕ, ◌+◌, ◌-◌, ◌*◌, ◌^◌, ◌<◌, ◌≤◌, Bool, true, false, List, [], ◌∷◌, ◌++◌, map, length, drop, is_ok, Result}
-use Rattle.std.specs.List.{AllByRecursion}
+use Rattle.std.specs.Prelude.{◌≡◌, ℕ, ◌+◌, ◌-◌, ◌*◌, ◌^◌, ◌<◌, ◌≤◌, Bool, true, false, List, [], ◌∷◌, ◌++◌, map, length, drop, is_ok, Result, All}
 use Rattle.likeness.specs.Counts.{Stands, true_count}
 use Rattle.tally.specs.declared.rows.Head.{Head}
 use Rattle.tally.specs.declared.rows.Row.{Row}
@@ -32,9 +31,9 @@ pub record Lists {K : Type 0} (alike : K → K → Bool) (a threshold : ℕ) (wi
   -- whatever truly counts the threshold or more is named
   pub all : (k : K) → threshold ≤ true_count alike window k → Named alike entries k
   -- what is named stands in the window, and is not far below the threshold
-  pub stand : AllByRecursion (λ e. Stands alike window e.key) entries
-  pub near : AllByRecursion (λ e. 2 ^ a * (threshold - true_count alike window e.key) < length window) entries
-  pub brackets : AllByRecursion (λ e. Bracket a (length window) (true_count alike window e.key) (bracket_in e)) entries
+  pub stand : All (λ e. Stands alike window e.key) entries
+  pub near : All (λ e. 2 ^ a * (threshold - true_count alike window e.key) < length window) entries
+  pub brackets : All (λ e. Bracket a (length window) (true_count alike window e.key) (bracket_in e)) entries
 
 module _ {S K : Type 0} (figures : S → Figures) (holds : S → List (Row K) → List Head → List K → List K → Type 0) where
   -- record and tables are true to a window, and the record tells its size and how many keys came in all
@@ -82,6 +81,6 @@ module _ {S K : Type 0} (figures : S → Figures) (holds : S → List (Row K) �
           pub written : is_ok r ≡ true → list' ≡ over (listing s rows heads threshold) list
           pub kept : is_ok r ≡ false → list' ≡ list
           pub counts : short (needed figures need s) (lengths rows heads) ≡ false → unfit (figures s) threshold ≡ false
-              → AllByRecursion (λ e. bracket_in e ≡ bracket s rows heads e.key) (listing s rows heads threshold)
+              → All (λ e. bracket_in e ≡ bracket s rows heads e.key) (listing s rows heads threshold)
           pub right : short (needed figures need s) (lengths rows heads) ≡ false → unfit (figures s) threshold ≡ false → (past window : List K)
               → TrueTo s rows heads past window → Lists alike (figures s).accuracy threshold window (listing s rows heads threshold)
