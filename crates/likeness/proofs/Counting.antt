@@ -1,8 +1,7 @@
 -- Counting the keys of a window one by one, and by likeness. Assumes nothing; the last lemma takes alike to be symmetric and transitive.
-use Rattle.std.proofs.Common.{◌≡◌, ℕ, ◌+◌, ◌<◌, ◌≤◌, Bool, true, false, cond, List, [], ◌∷◌, length, get_or, take, count_by, IsTrue, ◌↔◌, refl, ap, ◌∙◌, arith}
+use Rattle.std.proofs.Common.{◌≡◌, Bool, true, cond, List, [], ◌∷◌, IsTrue, ◌↔◌, refl, arith}
 use Rattle.std.specs.List.{list_any}
-use mir.Val.{bool_byte}
-use Rattle.std.proofs.lemmas.List.Sums.{sum_by_more, sum_by-cons}
+use Rattle.std.proofs.lemmas.List.Sums.{sum_by-cons}
 use Rattle.likeness.specs.Counts.{Stands, true_count}
 
 -- a key stands in the window exactly where one of the window's keys is alike to it
