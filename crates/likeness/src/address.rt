@@ -7,6 +7,7 @@ ghost use Rattle.likeness.specs.Laws.{by_kind};
 
 use crate::kind::Likeness;
 
+// Beside the reader's address, which is another when any byte is: here only the kind counts, and no key stands on the reader.
 /// The address of a sentence as it is counted: two bytes for who speaks, and three for the kind of sentence.
 #[derive(Clone, Copy, Debug)]
 pub struct AddressKey {

@@ -68,6 +68,7 @@ fn take_key<K: Likeness>(rows: &mut [Row<K>], head: Head, key: K) -> Head
 /// The first row in use that is alike to the key counts one more. Where none is, the key takes the next free row; where
 /// no row is free, one is taken off every count, rows left with 0 are given up, and the key is written nowhere.
 /// A tally that tells of a list of keys tells of the list with this key behind it, up to 4,294,967,295 keys.
+// Rows and head are two parameters here, since a caller may keep its heads in a table of their own; `Tally` has them as one.
 pub fn step<K: Likeness>(rows: &mut [Row<K>], head: Head, key: K) -> Head
     ensures head { result ≡ head_of (stepped K.alike rows.old head key) }
     ensures rows { rows.new ≡ over (stepped K.alike rows.old head key).rows rows.old }

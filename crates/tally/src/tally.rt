@@ -46,6 +46,8 @@ impl<'a, K: Likeness> Tally<'a, K> {
         }
     }
 
+    // The next two hand on to the slot, so that who steps a tally can ask it, too.
+
     /// The place of the first row in use that is alike to the key.
     pub fn find(&self, key: &K) -> Option<usize>
         ensures value { result ≡ place K.alike (held self.now.rows.now self.now.head).rows key.now }
