@@ -3,7 +3,7 @@
 ghost use Rattle.std.specs.Prelude.{◌≡◌, true, false, [], ◌∷◌};
 ghost use Rattle.likeness.specs.Agree.{kind_of, same_kind};
 ghost use Rattle.likeness.specs.Laws;
-ghost use Rattle.likeness.specs.Laws.{by_kind};
+ghost use Rattle.likeness.specs.Laws.{address_part, address_decides};
 
 use crate::kind::Likeness;
 
@@ -27,11 +27,11 @@ impl AddressKey {
 impl Likeness for AddressKey {
     ghost alike = { λ x y. same_kind x.bytes y.bytes };
 
-    ghost reflexive = { Laws.reflexive by_kind };
+    ghost reflexive = { Laws.reflexive address_part _ address_decides };
 
-    ghost symmetric = { Laws.symmetric by_kind };
+    ghost symmetric = { Laws.symmetric address_part _ address_decides };
 
-    ghost transitive = { Laws.transitive by_kind };
+    ghost transitive = { Laws.transitive address_part _ address_decides };
 
     fn is_alike(&self, other: &AddressKey) -> bool
         ensures alike { result ≡ same_kind self.now.bytes other.now.bytes }

@@ -3,7 +3,7 @@
 ghost use Rattle.std.specs.Prelude.{◌≡◌};
 ghost use Rattle.likeness.specs.Agree.{same_reading, same_sounder};
 ghost use Rattle.likeness.specs.Laws;
-ghost use Rattle.likeness.specs.Laws.{by_reading};
+ghost use Rattle.likeness.specs.Laws.{sounding_part, sounding_decides};
 
 use crate::kind::Likeness;
 use bands::Band;
@@ -28,11 +28,11 @@ impl SoundingKey {
 impl Likeness for SoundingKey {
     ghost alike = { λ x y. same_reading x.sounder x.band y.sounder y.band };
 
-    ghost reflexive = { Laws.reflexive by_reading };
+    ghost reflexive = { Laws.reflexive sounding_part _ sounding_decides };
 
-    ghost symmetric = { Laws.symmetric by_reading };
+    ghost symmetric = { Laws.symmetric sounding_part _ sounding_decides };
 
-    ghost transitive = { Laws.transitive by_reading };
+    ghost transitive = { Laws.transitive sounding_part _ sounding_decides };
 
     fn is_alike(&self, other: &SoundingKey) -> bool {
         self.is_of(other.sounder) && self.band == other.band
