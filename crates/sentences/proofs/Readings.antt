@@ -5,8 +5,8 @@ use Rattle.sentences.specs.Shape.{shape_fault}
 use Rattle.sentences.specs.declared.error.SentenceError.TheVariants.{Shape}
 
 -- once shape and sum are right, the address and the fields decide
-pub reading_right : (xs : List ℕ) → shape_fault xs ≡ None → sum_right xs ≡ true → reading_of xs ≡ depth_at (sounder_of (address_bytes xs)) (fields_of xs)
-reading_right xs shape sum = grind arith
+pub reading_of_parts : (xs : List ℕ) → shape_fault xs ≡ None → sum_right xs ≡ true → reading_of xs ≡ depth_at (sounder_of (address_bytes xs)) (fields_of xs)
+reading_of_parts xs shape sum = grind arith
 
 -- a wrong shape is all that is said of bytes
 pub address_unshaped : (xs : List ℕ) (column : ℕ) → shape_fault xs ≡ Some column → address_of xs ≡ Err (Shape column)
