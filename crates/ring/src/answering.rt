@@ -6,8 +6,10 @@ ghost use Rattle.keeper.specs.Figures.{grown, shrunk};
 ghost use Rattle.keeper.specs.Refusals.{count_answer, drop_answer, list_answer, put_answer};
 ghost use Rattle.keeper.specs.Tables.{lengths, needed};
 ghost use Rattle.tally.specs.Slots.{over};
+ghost use Rattle.ring.specs.Entries.{left};
 ghost use Rattle.ring.specs.Rings.{exactly, listing_of, need_of, stored, window_of};
 
+use crate::entries::Entries;
 use crate::figures::Ring;
 use crate::window::Window;
 use keeper::{Entry, Lengths, Refusal, admit_drop, admit_list, admit_put, admit_tables};
@@ -107,11 +109,21 @@ impl Ring {
     {
         admit_list(self, Lengths::of(rows, heads), threshold)?;
         let window = self.window(rows);
-        let named = window.count_entries(threshold);
+        let named = window.entries(threshold).count();
         if list.len() < named {
             return Err(Refusal::ShortList);
         }
-        window.write_entries(threshold, list);
+        write(window.entries(threshold), list);
         Ok(named)
+    }
+}
+
+// Writes the entries over the front of the list.
+fn write<K: Likeness>(entries: Entries<'_, '_, K>, list: &mut [Entry<K>])
+    requires { length (left K.alike entries) ≤ length list.old }
+    ensures { list.new ≡ over (left K.alike entries.entry) list.old }
+{
+    for (at, entry) in entries.enumerate() {
+        list[at] = entry;
     }
 }

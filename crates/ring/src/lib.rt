@@ -2,6 +2,7 @@
 #![tactic(auto)]
 
 mod answering;
+mod entries;
 mod figures;
 mod keeping;
 mod window;

@@ -1,12 +1,13 @@
 //! A window as it lies in the rows.
 
-ghost use Rattle.std.specs.Prelude.{◌≡◌, ◌≤◌, length, take};
+ghost use Rattle.std.specs.Prelude.{◌≡◌, take};
 ghost use Rattle.std.specs.Iterator.{YieldsFirst, YieldsLast, item_count};
 ghost use Rattle.keeper.specs.Listing.{among, named_after};
 ghost use Rattle.likeness.specs.Counts.{true_count};
-ghost use Rattle.tally.specs.Slots.{over};
+ghost use Rattle.ring.specs.Entries.{left};
 ghost use Rattle.ring.specs.Rings.{exactly, listing_of};
 
+use crate::entries::Entries;
 use keeper::Entry;
 use likeness::Likeness;
 use std::marker::Model;
@@ -101,7 +102,7 @@ impl<'a, K: Likeness> Window<'a, K> {
     }
 
     // The entry for the key at a place, if that is its first place and it counts enough.
-    fn entry(&self, place: usize, key: K, threshold: u32) -> Option<Entry<K>>
+    pub(crate) fn entry(&self, place: usize, key: K, threshold: u32) -> Option<Entry<K>>
         ensures { result ≡ named_after K.alike (exactly K.alike self.now) threshold (take place self.now) key }
     {
         if self.first(place).holds(&key) {
@@ -115,28 +116,14 @@ impl<'a, K: Likeness> Window<'a, K> {
         })
     }
 
-    // How many entries a list at the threshold has.
-    pub(crate) fn count_entries(&self, threshold: u32) -> usize
-        ensures { result ≡ length (listing_of K.alike self.now threshold) }
+    // The entries of a list at the threshold, in order.
+    pub(crate) fn entries(&self, threshold: u32) -> Entries<'_, 'a, K>
+        ensures { left K.alike result ≡ listing_of K.alike self.now threshold }
     {
-        self.keys()
-            .enumerate()
-            .filter_map(|(place, key)| self.entry(place, key, threshold))
-            .count()
-    }
-
-    // Writes these entries over the front of the list.
-    pub(crate) fn write_entries(&self, threshold: u32, list: &mut [Entry<K>])
-        requires { length (listing_of K.alike self.now threshold) ≤ length list.old }
-        ensures { list.new ≡ over (listing_of K.alike self.now threshold) list.old }
-    {
-        // Counted by hand: over the chain of entries, numbered by `enumerate`, the check cannot write the loop's goals.
-        let mut named = 0;
-        for (place, key) in self.keys().enumerate() {
-            if let Some(entry) = self.entry(place, key, threshold) {
-                list[named] = entry;
-                named += 1;
-            }
+        Entries {
+            window: self,
+            keys: self.keys().enumerate(),
+            threshold,
         }
     }
 }
