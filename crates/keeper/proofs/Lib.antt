@@ -1,4 +1,3 @@
 pub mod Admits
 pub mod Listings
 pub mod Truths
-pub mod Writings

@@ -1,7 +1,7 @@
 -- The entries of a list: one key after another, and why they are right as the list of a window. Assumes nothing, but for the last part, which takes alike to be symmetric and transitive.
-use Rattle.std.proofs.Common.{◌≡◌, ℕ, ◌+◌, ◌-◌, ◌*◌, ◌^◌, ◌<◌, ◌≤◌, Bool, true, false, cond, not, ◌||◌, leb, List, [], ◌∷◌, ◌++◌, map, length, take, drop, Some, None, filter, Option, sym, refl, ap, ◌∙◌, subst, mul-le-mul_left, arith}
+use Rattle.std.proofs.Common.{◌≡◌, ℕ, ◌+◌, ◌-◌, ◌*◌, ◌^◌, ◌<◌, ◌≤◌, Bool, true, false, cond, not, ◌||◌, leb, List, [], ◌∷◌, ◌++◌, map, length, take, Some, None, filter, Option, sym, refl, ap, ◌∙◌, subst, mul-le-mul_left, arith}
 use Rattle.std.proofs.lemmas.List.Elements.{filter-append, All-nil, All-cons, All-head, All-tail, All-filter, All-map, All-weaker, filter_passes}
-use Rattle.std.proofs.lemmas.List.{append-nil, map-append, length_push, take-append-drop, append_assoc}
+use Rattle.std.proofs.lemmas.List.{append-nil, map-append, length_push, append_assoc}
 use Rattle.std.proofs.lemmas.List.Sums.{sum_by-cons, count_by-le-length}
 use Rattle.std.proofs.lemmas.Bool.{both_ways, cond_both, not-true, or_left, or_right, le-leb, leb-true}
 use Rattle.std.specs.List.{All, cons_option, enumerate_from, filter_map}
@@ -64,7 +64,7 @@ module _ {K : Type 0} (alike : K → K → Bool) where
     high x = leb threshold (bracket x).1
 
     -- entries, and one more if there is one
-    abbrev pub extended : List (Entry K) → Option (Entry K) → List (Entry K)
+    abbrev extended : List (Entry K) → Option (Entry K) → List (Entry K)
     extended es None = es
     extended es (Some e) = es ++ e ∷ []
 
@@ -72,7 +72,7 @@ module _ {K : Type 0} (alike : K → K → Bool) where
     extended_front es None more = refl
     extended_front es (Some e) more = sym (append_assoc es (e ∷ []) more)
 
-    pub listed_push : (xs : List K) (k : K) → listed alike bracket threshold (xs ++ k ∷ []) ≡ extended (listed alike bracket threshold xs) (named_after alike bracket threshold xs k)
+    listed_push : (xs : List K) (k : K) → listed alike bracket threshold (xs ++ k ∷ []) ≡ extended (listed alike bracket threshold xs) (named_after alike bracket threshold xs k)
     unfolding entry high
     listed_push xs k = ap (λ ks. map entry (filter high ks)) (firsts_push xs k) ∙ ways (among alike xs k) (high k) refl
       where
@@ -107,23 +107,6 @@ module _ {K : Type 0} (alike : K → K → Bool) where
     pub listed_places : (keys : List K) → filter_map (λ p. named_after alike bracket threshold (take p.0 keys) p.1) (enumerate_from 0 keys) ≡ listed alike bracket threshold keys
     unfolding adds
     listed_places keys = listed_rest keys [] keys refl
-
-    extended_longer : (es : List (Entry K)) (o : Option (Entry K)) → length es ≤ length (extended es o)
-    extended_longer es None = omega arith
-    extended_longer es (Some e) = omega (arith, length_push es e)
-
-    listed_longer : (xs ys : List K) → length (listed alike bracket threshold xs) ≤ length (listed alike bracket threshold (xs ++ ys))
-    listed_longer xs [] = rw append-nil (omega arith)
-    listed_longer xs (y ∷ ys) =
-        let more = listed_longer (xs ++ y ∷ []) ys in
-        let one = extended_longer (listed alike bracket threshold xs) (named_after alike bracket threshold xs y) in
-        let grown = ap length (listed_push xs y) in
-        let regrouped = ap (λ zs. length (listed alike bracket threshold zs)) (append_assoc xs (y ∷ []) ys) in
-        omega arith
-
-    -- the front of a list has no more entries than the whole
-    pub listed_front : (xs : List K) (i : ℕ) → length (listed alike bracket threshold (take i xs)) ≤ length (listed alike bracket threshold xs)
-    listed_front xs i = subst (λ zs. length (listed alike bracket threshold (take i xs)) ≤ length (listed alike bracket threshold zs)) (take-append-drop i xs) (listed_longer (take i xs) (drop i xs))
 
     -- each entry has its key's bracket
     pub listed_counts : (xs : List K) → All (λ e. bracket_in e ≡ bracket e.key) (listed alike bracket threshold xs)
