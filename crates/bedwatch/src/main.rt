@@ -16,6 +16,7 @@ fn run(rt: &HostRuntime) -> io::Result<()> {
     let mut watch = Bedwatch::new();
     let mut input = rt.stdin();
     let mut output = rt.stdout();
+    // The pieces are counted, since every function has to end.
     for _ in 0..u64::MAX {
         let count = input.read(&mut piece)?;
         if count == 0 {

@@ -15,7 +15,7 @@ const MOST_PUTS: u32 = 1 << 30;
 pub fn admit_tables<P: Record>(keeper: &P, lent: Lengths) -> Result<(), Refusal>
     ensures { result ≡ count_answer (needed P.Record.figures P.Record.need keeper.now) lent tt }
 {
-    if lent.is_short_of(&keeper.needs()) {
+    if lent.is_short_of(keeper.needs()) {
         return Err(Refusal::ShortTable);
     }
     Ok(())

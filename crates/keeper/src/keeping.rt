@@ -41,7 +41,8 @@ pub trait Record: Sized {
         ensures { result ≡ needed figures need self.now };
 }
 
-// The two tables go side by side: a struct of two `&mut` would be made anew for each call, and its clauses speak of loans.
+// The two tables go side by side, since the caller owns them and lends them to each call: as a struct they would be two types,
+// of shared and of `&mut` loans, each made anew for a call, and the clauses of the second would speak of loans.
 /// A window counter. Its record holds numbers only; the tables are the caller's, who lends the same ones to each call
 /// and writes nothing to them in between.
 pub trait Keeper<K: Likeness>: Record {

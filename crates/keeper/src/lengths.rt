@@ -24,8 +24,8 @@ impl Lengths {
     }
 
     /// Whether one of these tables is shorter than is needed.
-    pub fn is_short_of(&self, need: &Lengths) -> bool
-        ensures { result ≡ short need.now self.now }
+    pub fn is_short_of(self, need: Lengths) -> bool
+        ensures { result ≡ short need self }
     {
         self.rows < need.rows || self.heads < need.heads
     }

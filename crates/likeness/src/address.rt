@@ -7,7 +7,8 @@ ghost use Rattle.likeness.specs.Laws.{address_part, address_decides};
 
 use crate::kind::Likeness;
 
-// Beside the reader's address, which is another when any byte is: here only the kind counts, and no key stands on the reader.
+// Not the reader's `Address`, for which every byte counts: of a key only the kind does, and this crate does not know the
+// reader.
 /// The address of a sentence as it is counted: two bytes for who speaks, and three for the kind of sentence.
 #[derive(Clone, Copy, Debug)]
 pub struct AddressKey {

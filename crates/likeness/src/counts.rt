@@ -2,7 +2,7 @@
 
 ghost use Rattle.std.specs.Prelude.{◌≡◌, ◌≤◌, length, ◌↔◌, IsTrue};
 ghost use Rattle.std.specs.List.{list_any};
-ghost use Rattle.likeness.specs.Counts.{Stands, short_for, true_count, truly_short};
+ghost use Rattle.likeness.specs.Counts.{Stands, true_count, truly_short};
 
 use crate::kind::Likeness;
 use crate::sounding::SoundingKey;
@@ -15,7 +15,7 @@ pub fn true_count<K: Likeness>(window: &[K], key: &K) -> usize
     window.iter().filter(|other| other.is_alike(key)).count()
 }
 
-// Whether a test of each key in turn finds an alike one. Apart from `stands_in`, since one lemma leads from that to the count.
+// Whether one of the keys is alike to `key`. A function of its own, since the lemma `stands_any` needs its answer as a fact.
 fn any_alike<K: Likeness>(window: &[K], key: &K) -> bool
     ensures { result ≡ list_any (λ x. K.alike x key.now) window.now }
 {

@@ -54,6 +54,7 @@ impl Cutter {
     #[tactic(auto, using(crate::proofs::Keeps::line_of_take))]
     pub fn line(&self) -> &[u8]
         ensures value { result.now ≡ line_of self.now }
+        ensures fits { length self.now ≤ 82 }
         ensures text { (raw : List ℕ) → After self.now raw → result.now ≡ shown (ended_line raw) }
     {
         first_shown(before_cr(self.bytes.as_slice()))
@@ -63,6 +64,7 @@ impl Cutter {
     #[tactic(auto, using(crate::proofs::Keeps::last_of_take))]
     pub fn last(&self) -> Option<&[u8]>
         ensures value { option_map (λ x. x.now) result ≡ last_of self.now }
+        ensures fits { length self.now ≤ 82 }
         ensures text { (raw : List ℕ) → After self.now raw → option_to_list (option_map (λ x. x.now) result) ≡ map shown (last_line raw) }
     {
         match self.bytes.as_slice() {

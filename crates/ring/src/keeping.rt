@@ -1,6 +1,6 @@
 //! The ring as a keeper.
 
-ghost use Rattle.std.specs.Prelude.{◌≡◌, is_ok, if◌then◌else◌};
+ghost use Rattle.std.specs.Prelude.{◌≡◌, ◌^◌, ◌≤◌, is_ok, if◌then◌else◌};
 ghost use Rattle.keeper.specs.Rules.{Put};
 ghost use Rattle.ring.specs.Rings.{exactly, HoldsWindow, listing_of, need_of, stored, window_of};
 
@@ -18,11 +18,18 @@ impl Record for Ring {
         self.setting
     }
 
-    fn puts(&self) -> u32 {
+    fn puts(&self) -> u32
+        ensures value { result ≡ self.now.puts }
+        ensures counted { result ≤ 2 ^ 30 }
+    {
         self.puts
     }
 
-    fn size(&self) -> u32 {
+    fn size(&self) -> u32
+        ensures value { result ≡ self.now.size }
+        ensures came { result ≤ self.now.puts }
+        ensures stored { result ≤ 2 ^ self.now.span }
+    {
         self.size
     }
 

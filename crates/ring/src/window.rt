@@ -13,7 +13,8 @@ use likeness::Likeness;
 use std::marker::Model;
 use tally::Row;
 
-// The window's rows, oldest first: the older ones end where the table does if there are newer ones, which begin at its front.
+// The window's rows, oldest first. If there are newer ones, they begin at the table's front, and the older ones end at the last
+// row that the ring uses.
 #[derive(Drop)]
 pub(crate) struct Window<'a, K> {
     pub(crate) older: &'a [Row<K>],
@@ -30,7 +31,8 @@ impl<'a, K> Model for Window<'a, K> {
     ghost invariant = { λ w. length w.older.now + length w.newer.now < 2 ^ 32 };
 }
 
-/// The keys, from either end.
+/// The keys, from either end. Not `older.iter().chain(newer)`: tried, and under `enumerate` and behind `rev` it stayed open what
+/// the chain yields.
 impl<'a, K: Likeness> Iterator for Window<'a, K> {
     type Item = K;
 
@@ -64,7 +66,7 @@ impl<'a, K: Likeness> DoubleEndedIterator for Window<'a, K> {
 }
 
 impl<'a, K: Likeness> Window<'a, K> {
-    // Its keys, oldest first.
+    // Its keys, oldest first. By hand, since a `clone` may fail.
     pub(crate) fn keys(&self) -> Window<'a, K>
         ensures { result ≡ self.now }
     {
@@ -74,7 +76,8 @@ impl<'a, K: Likeness> Window<'a, K> {
         }
     }
 
-    // How many keys are alike to this one.
+    // How many keys are alike to this one. The library's `true_count` takes a slice; one function over any iterator would ask its
+    // caller that the iterator ends, and no public function asks anything.
     pub(crate) fn count_alike(&self, key: &K) -> u32
         ensures { result ≡ true_count K.alike self.now key.now }
     {

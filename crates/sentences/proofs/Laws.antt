@@ -132,9 +132,6 @@ right_reading bytes reading d =
 
 -- a shape refusal points at the first wrong column
 
-never_shape : {P T : Type 0} {x : T} {c : ℕ} → ◌≡◌ {A = Result T SentenceError} (Ok x) (Err (Shape c)) → P
-never_shape e = err_ok (sym e)
-
 address_wrong : (bytes : List ℕ) (column : ℕ) → address_of bytes ≡ Err (Shape column) → shape_fault bytes ≡ Some column
 address_wrong bytes column e = grind arith
 

@@ -21,9 +21,6 @@ err_ok e = absurd cc
 pub same_ok : {T E : Type 0} {x y : T} → ◌≡◌ {A = Result T E} (Ok x) (Ok y) → x ≡ y
 same_ok e = cc
 
-pub same_err : {T E : Type 0} {x y : E} → ◌≡◌ {A = Result T E} (Err x) (Err y) → x ≡ y
-same_err e = cc
-
 -- what `ok_or` answers
 pub some_of_ok : {T E : Type 0} (o : Option T) (e : E) (x : T) → Ok x ≡ ok_or o e → o ≡ Some x
 some_of_ok o e x h = grind arith

@@ -1,9 +1,10 @@
 -- The fields of a depth sentence, and the clearance that they give.
 -- Of the bytes, 44 is the comma, 45 the minus, 46 the point, 48 the digit 0.
-use Rattle.std.specs.Prelude.{ℕ, ◌+◌, ◌-◌, ◌*◌, Bool, if◌then◌else◌, not, ◌&&◌, List, [], ◌∷◌, length, take, drop, ℤ, pos, ◌-ℤ◌, Some, None, Ok, Err, Option, Result, ◌==◌}
+use Rattle.std.specs.Prelude.{ℕ, ◌+◌, ◌-◌, ◌*◌, Bool, if◌then◌else◌, not, ◌&&◌, List, [], ◌∷◌, length, take, drop, ℤ, pos, ◌-ℤ◌, Some, None, Err, Option, Result, ◌==◌}
 use Rattle.std.specs.Option.{option_map}
 use Rattle.std.specs.List.{prefix_len}
 use Rattle.sentences.specs.Bytes.{is_digit}
+use Rattle.sentences.specs.Refusals.{unless}
 use Rattle.sentences.specs.declared.error.SentenceError.{SentenceError}
 use Rattle.sentences.specs.declared.error.SentenceError.TheVariants.{NoClearance}
 
@@ -59,8 +60,7 @@ needed (Some x) column next = next x
 
 -- no clearance, at the column of a fourth field, or else what is right
 abbrev pub unless_extra : {A : Type 0} → Option ℕ → A → Result A SentenceError
-unless_extra None right = Ok right
-unless_extra (Some column) right = Err (NoClearance column)
+unless_extra column right = unless NoClearance column right
 
 -- the clearance that fields give, from the column where they begin: depth less what the keel takes of it
 abbrev pub clearance_of : ℕ → List ℕ → Result ℤ SentenceError

@@ -1,6 +1,7 @@
 -- Where a sentence's shape goes wrong, byte by byte. Of the bytes, 36 is `$`, 42 `*`, 44 the comma.
-use Rattle.std.specs.Prelude.{ℕ, ◌+◌, ◌-◌, if◌then◌else◌, List, [], ◌∷◌, Some, None, Option, Ok, Err, Result, ◌==◌, nat_lt}
+use Rattle.std.specs.Prelude.{ℕ, ◌+◌, ◌-◌, if◌then◌else◌, List, [], ◌∷◌, Some, None, Option, Result, ◌==◌, nat_lt}
 use Rattle.sentences.specs.Bytes.{is_address_byte, is_field_byte, is_hex_digit}
+use Rattle.sentences.specs.Refusals.{unless}
 use Rattle.sentences.specs.declared.error.SentenceError.{SentenceError}
 use Rattle.sentences.specs.declared.error.SentenceError.TheVariants.{Shape}
 use Rattle.sentences.specs.declared.shape.Expect.{Expect}
@@ -38,5 +39,4 @@ shape_fault bytes = fault_from Dollar 1 bytes
 
 -- what is right, unless a column is wrong
 abbrev pub unless_fault : {A : Type 0} → Option ℕ → A → Result A SentenceError
-unless_fault None right = Ok right
-unless_fault (Some column) right = Err (Shape column)
+unless_fault column right = unless Shape column right

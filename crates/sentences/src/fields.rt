@@ -11,15 +11,15 @@ use crate::error::SentenceError;
 // The column where the fields of a sentence begin.
 const FIELDS_AT: usize = 7;
 
-// What a digit is worth.
+// What a digit is worth. Not `to_digit`, whose `Option` asks again what is known of the byte.
 fn digit_value(byte: u8) -> u32
     ensures { result ≡ byte - 48 }
 {
     byte.saturating_sub(b'0') as u32
 }
 
-// One to four digits as a number. A fold over them is not proved: nothing bounds the number so far,
-// so that ten times it might not fit.
+// One to four digits as a number. Not a `try_fold` with checked sums: tried, and it stayed open that its answer is
+// `decimal_few digits.now`.
 fn decimal(digits: &[u8]) -> Option<u32>
     ensures value { result ≡ decimal_few digits.now }
     ensures bound { IfSome result (λ n. n ≤ 230000) }

@@ -7,7 +7,7 @@ ghost use Rattle.sentences.specs.Reader.{address_bytes, address_of, depth_at, fi
 
 use crate::error::SentenceError;
 use crate::fields::clearance;
-use crate::shape::Shaped;
+use crate::shape::ShapedBytes;
 
 /// The five bytes after the `$`: who speaks, in two, and the kind of sentence, in three.
 #[derive(Clone, Copy, PartialEq, Eq, Debug)]
@@ -37,7 +37,7 @@ fn depth_sounder(address: [u8; 5]) -> Result<[u8; 2], SentenceError>
 fn parse_address(bytes: &[u8]) -> Result<Address, SentenceError>
     ensures { result ≡ address_of bytes.now }
 {
-    let sentence = Shaped::read(bytes)?;
+    let sentence = ShapedBytes::read(bytes)?;
     sentence.check_sum()?;
     Ok(Address {
         bytes: sentence.address(),
@@ -45,7 +45,7 @@ fn parse_address(bytes: &[u8]) -> Result<Address, SentenceError>
 }
 
 // The reading that a sentence gives once its shape and sum are right.
-fn depth_reading(sentence: &Shaped) -> Result<Reading, SentenceError>
+fn depth_reading(sentence: &ShapedBytes) -> Result<Reading, SentenceError>
     ensures { result ≡ depth_at (sounder_of (address_bytes sentence.now)) (fields_of sentence.now) }
 {
     let sounder = depth_sounder(sentence.address())?;
@@ -57,7 +57,7 @@ fn depth_reading(sentence: &Shaped) -> Result<Reading, SentenceError>
 fn parse_depth(bytes: &[u8]) -> Result<Reading, SentenceError>
     ensures { result ≡ reading_of bytes.now }
 {
-    let sentence = Shaped::read(bytes)?;
+    let sentence = ShapedBytes::read(bytes)?;
     sentence.check_sum()?;
     depth_reading(&sentence)
 }

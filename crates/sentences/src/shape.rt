@@ -79,11 +79,11 @@ impl Expect {
 
 // Bytes that have the shape of a sentence. The shortest has `$`, an address, `*` and two digits.
 #[derive(Drop)]
-pub(crate) struct Shaped<'a> {
+pub(crate) struct ShapedBytes<'a> {
     bytes: &'a [u8],
 }
 
-impl<'a> Model for Shaped<'a> {
+impl<'a> Model for ShapedBytes<'a> {
     ghost use Rattle.std.specs.Prelude.{List, ℕ, ◌≤◌, length};
 
     ghost Value = { List ℕ };
@@ -93,7 +93,7 @@ impl<'a> Model for Shaped<'a> {
     ghost invariant = { λ s. (9 ≤ length s.bytes.now) × (length s.bytes.now ≤ 80) };
 }
 
-impl<'a> Shaped<'a> {
+impl<'a> ShapedBytes<'a> {
     // Refuses the first wrong column.
     pub(crate) fn read(bytes: &'a [u8]) -> Result<Self, SentenceError>
         ensures { result ≡ unless_fault (shape_fault bytes.now) bytes.now }
@@ -106,7 +106,7 @@ impl<'a> Shaped<'a> {
             expect = expect.after(*byte).ok_or(SentenceError::Shape { column })?;
         }
         expect.end(bytes.len() + 1)?;
-        Ok(Shaped { bytes })
+        Ok(ShapedBytes { bytes })
     }
 
     // Refuses another sum than the last two bytes write, of what stands between `$` and `*`.

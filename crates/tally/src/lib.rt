@@ -37,9 +37,9 @@ mod tests {
             tally.step(key(letter));
         }
         assert_eq!(rt; tally.head(), Head { used: 1, lost: 1 });
-        assert_eq!(rt; tally.find(&key(b'A')), Some(0));
-        assert_eq!(rt; tally.count_of(&key(b'A')), 1);
-        assert_eq!(rt; tally.find(&key(b'C')), None);
+        assert_eq!(rt; tally.slot().find(&key(b'A')), Some(0));
+        assert_eq!(rt; tally.slot().count_of(&key(b'A')), 1);
+        assert_eq!(rt; tally.slot().find(&key(b'C')), None);
         tally.step(key(b'D'));
         tally.step(key(b'B'));
         assert_eq!(rt; tally.head(), Head { used: 0, lost: 2 });

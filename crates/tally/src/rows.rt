@@ -22,7 +22,7 @@ impl<K: Copy> Row<K> {
     }
 
     /// A row one lower, unless it comes to 0 and leaves.
-    pub(crate) fn lowered(self) -> Option<Row<K>>
+    pub(crate) fn after_fall(self) -> Option<Row<K>>
         ensures { result ≡ (if nat_lt 0 (lowered self).count then Some (lowered self) else None) }
     {
         let count = self.count.saturating_sub(1);
@@ -31,6 +31,7 @@ impl<K: Copy> Row<K> {
 }
 
 /// How many rows of a slot are in use, and how often all counts fell.
+// `used` stands beside the rows, and is no vector's length, since the rows are the caller's, who lends them: no heap.
 #[derive(Clone, Copy, PartialEq, Eq, Debug)]
 pub struct Head {
     pub used: u32,

@@ -10,7 +10,7 @@ use crate::rows::{Head, Row};
 use likeness::Likeness;
 
 /// A slot as it lies in a table, with its head. Rows and head may hold anything.
-#[derive(Clone, Copy)]
+#[derive(Clone, Copy, Debug)]
 pub struct Slot<'a, K> {
     pub rows: &'a [Row<K>],
     pub head: Head,

@@ -1,10 +1,10 @@
 //! One key comes to a slot.
 
-ghost use Rattle.std.specs.Prelude.{◌≡◌, ◌+◌, ◌-◌, ◌≤◌, min, length, take, if◌then◌else◌, Some, None, nat_lt};
+ghost use Rattle.std.specs.Prelude.{◌≡◌, ◌≤◌, length};
 ghost use Rattle.tally.specs.Cases.{Oddities};
 ghost use Rattle.tally.specs.Laws.{StillTells};
 ghost use Rattle.tally.specs.Slots.{head_of, over, stepped};
-ghost use Rattle.tally.specs.Steps.{fallen, lowered};
+ghost use Rattle.tally.specs.Steps.{fallen};
 
 use crate::rows::{Head, Row};
 use crate::slot::Slot;
@@ -20,7 +20,7 @@ fn settle<K: Copy>(rows: &mut [Row<K>]) -> usize
 {
     let mut stay = 0;
     for i in 0..rows.len() {
-        if let Some(row) = rows[i].lowered() {
+        if let Some(row) = rows[i].after_fall() {
             rows[stay] = row;
             stay += 1;
         }

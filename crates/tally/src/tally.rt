@@ -1,9 +1,9 @@
 //! A tally over a part of a lent row table.
 
-ghost use Rattle.std.specs.Prelude.{◌≡◌, ◌^◌, ◌<◌, length, IfSome};
+ghost use Rattle.std.specs.Prelude.{◌≡◌, ◌^◌, ◌<◌, length};
 ghost use Rattle.tally.specs.Cases.{Runs};
-ghost use Rattle.tally.specs.Laws.{FirstAlike, StillTells, Tells};
-ghost use Rattle.tally.specs.Steps.{place, count_in, run};
+ghost use Rattle.tally.specs.Laws.{StillTells, Tells};
+ghost use Rattle.tally.specs.Steps.{run};
 ghost use Rattle.tally.specs.Slots.{held, stepped, head_of, over, room};
 
 use crate::rows::{EMPTY, Head, Row};
@@ -35,8 +35,8 @@ impl<'a, K: Likeness> Tally<'a, K> {
         self.head
     }
 
-    // The slot, to be read.
-    fn slot(&self) -> Slot<'_, K>
+    /// The slot as it stands, to be asked.
+    pub fn slot(&self) -> Slot<'_, K>
         ensures rows { result.rows.now ≡ self.now.rows.now }
         ensures head { result.head ≡ self.now.head }
     {
@@ -44,24 +44,6 @@ impl<'a, K: Likeness> Tally<'a, K> {
             rows: self.rows,
             head: self.head,
         }
-    }
-
-    // The next two hand on to the slot, so that who steps a tally can ask it, too.
-
-    /// The place of the first row in use that is alike to the key.
-    pub fn find(&self, key: &K) -> Option<usize>
-        ensures value { result ≡ place K.alike (held self.now.rows.now self.now.head).rows key.now }
-        ensures first { FirstAlike K.alike (held self.now.rows.now self.now.head).rows key.now result }
-        ensures within { IfSome result (λ i. i < length self.now.rows.now) }
-    {
-        self.slot().find(key)
-    }
-
-    /// What the slot counts of the key: the count of the first row in use that is alike, or 0.
-    pub fn count_of(&self, key: &K) -> u32
-        ensures { result ≡ count_in K.alike (held self.now.rows.now self.now.head).rows key.now }
-    {
-        self.slot().count_of(key)
     }
 
     /// One key comes.

@@ -12,7 +12,7 @@ loop-i-preserved g c =
     let x = c.index-rows-i.result in
     let read : x ≡ get_or xs c.loop-i.i x = grind (arith, over_read) in
     let more = fallen_more xs c.loop-i.i x (omega arith) read in
-    elim c.match-lowered.branch [
+    elim c.match-after_fall.branch [
       | in-Some w ↦ record { front = grind (arith, nat_tests, common_steps, over_more); long = grind (arith, nat_tests, common_steps); behind = omega arith }
       | in_default w ↦ record { front = grind (arith, nat_tests, common_steps); long = grind (arith, nat_tests, common_steps); behind = omega arith }
     ]
