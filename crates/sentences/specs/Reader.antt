@@ -17,9 +17,13 @@ abbrev pub sum_right : List ℕ → Bool
 sum_right bytes =
     (slice_index bytes (length bytes - 2) == hex_digit (sentence_sum bytes / 16)) && slice_index bytes (length bytes - 1) == hex_digit (sentence_sum bytes % 16)
 
--- refuses a sum that the last two bytes do not write, at the first of them
+-- the column of the checksum's first digit
+abbrev pub sum_column : List ℕ → ℕ
+sum_column bytes = length bytes - 1
+
+-- refuses a sum that the last two bytes do not write
 abbrev pub sum_checked : List ℕ → Result (Unit {0}) SentenceError
-sum_checked bytes = if sum_right bytes then Ok tt else Err (Checksum (length bytes - 1))
+sum_checked bytes = if sum_right bytes then Ok tt else Err (Checksum (sum_column bytes))
 
 -- the five bytes after the `$`
 abbrev pub address_bytes : List ℕ → List ℕ
@@ -33,7 +37,7 @@ fields_of bytes = take (length bytes - 9) (drop 6 bytes)
 abbrev pub address_at : Option ℕ → Bool → List ℕ → Result Address SentenceError
 address_at (Some column) right bytes = Err (Shape column)
 address_at None true bytes = Ok (record { bytes = address_bytes bytes })
-address_at None false bytes = Err (Checksum (length bytes - 1))
+address_at None false bytes = Err (Checksum (sum_column bytes))
 
 -- the address of a sentence of right shape and checksum
 abbrev pub address_of : List ℕ → Result Address SentenceError

@@ -1,27 +1,32 @@
-use Rattle.std.proofs.Common.{◌≡◌, ◌-◌, ◌^◌, ◌≤◌, ◌++◌, map, take, drop, ap, subst, ◌∙◌, arith}
+use Rattle.std.proofs.Common.{◌≡◌, ◌-◌, ◌^◌, ◌≤◌, ◌++◌, map, take, drop, refl, ap, subst, ◌∙◌, arith}
 use Rattle.std.proofs.lemmas.Nat.{pow_pos}
 use Rattle.std.proofs.lemmas.List.{append-nil}
+use Rattle.keeper.specs.Figures.{Figures}
+use Rattle.ring.specs.declared.figures.Ring.TheInside.{Inside}
+use Rattle.ring.specs.Inside.{figures_in, IsInRange}
 use Rattle.ring.proofs.Rounds.{window_once, window_twice}
 use Rattle.ring.proofs.figures.Ring.window.Goals as goal
+
+-- the figures keep the range that the fields do
+range : (r : Inside) (f : Figures) → figures_in r ≡ f → IsInRange r → (f.size ≤ f.puts) × (f.size ≤ 2 ^ f.span) × (r.size ≡ f.size)
+range r f same fits = subst (λ s. (s.size ≤ s.puts) × (s.size ≤ 2 ^ s.span) × (r.size ≡ s.size)) same (fits.came, fits.stored, refl)
 
 pub returns-then-size-end : goal.returns-then-size-end
 returns-then-size-end g c =
     let f = c.args.self.now in
     let end = c.next_row-end in
-    let inv : (f.size ≤ f.puts) × (f.size ≤ 2 ^ f.span) = subst (λ s. (s.size ≤ s.puts) × (s.size ≤ 2 ^ s.span)) c.self.view_is (c.self.invariant.came, c.self.invariant.stored) in
-    let size : c.self.inside.size ≡ f.size = ap (λ s. s.size) c.self.view_is in
-    let long : end.result - (end.result - c.self.inside.size) ≡ f.size = omega (arith, size) in
-    ap (map (λ row. row.key)) (append-nil _ ∙ (λ t. take (long t) (drop (end.result - size t) c.args.rows.now)))
-    ∙ window_once c.args.rows.now f.puts f.size (2 ^ f.span) end.result (pow_pos _) inv.0 inv.1 end.ensures.value (omega arith)
+    let fits = range c.self.inside f c.self.view_is c.self.invariant in
+    let long : end.result - (end.result - c.self.inside.size) ≡ f.size = omega (arith, fits.2) in
+    ap (map (λ row. row.key)) (append-nil _ ∙ (λ t. take (long t) (drop (end.result - fits.2 t) c.args.rows.now)))
+    ∙ window_once c.args.rows.now f.puts f.size (2 ^ f.span) end.result (pow_pos _) fits.0 fits.1 end.ensures.value (omega (arith, fits.2))
 
 pub returns : goal.returns
 returns g c =
     let f = c.args.self.now in
     let end = c.next_row-end in
-    let inv : (f.size ≤ f.puts) × (f.size ≤ 2 ^ f.span) = subst (λ s. (s.size ≤ s.puts) × (s.size ≤ 2 ^ s.span)) c.self.view_is (c.self.invariant.came, c.self.invariant.stored) in
-    let size : c.self.inside.size ≡ f.size = ap (λ s. s.size) c.self.view_is in
     let all = c.capacity-capacity in
-    let start : all.result - (c.self.inside.size - end.result) ≡ 2 ^ f.span - (f.size - end.result) = omega (arith, size, all.ensures.value) in
-    let long : all.result - (all.result - (c.self.inside.size - end.result)) ≡ f.size - end.result = omega (arith, size, all.ensures.value, inv.1) in
+    let fits = range c.self.inside f c.self.view_is c.self.invariant in
+    let start : all.result - (c.self.inside.size - end.result) ≡ 2 ^ f.span - (f.size - end.result) = omega (arith, fits.2, all.ensures.value) in
+    let long : all.result - (all.result - (c.self.inside.size - end.result)) ≡ f.size - end.result = omega (arith, fits.2, all.ensures.value, fits.1) in
     ap (map (λ row. row.key)) (λ t. take (long t) (drop (start t) c.args.rows.now) ++ take end.result c.args.rows.now)
-    ∙ window_twice c.args.rows.now f.puts f.size (2 ^ f.span) end.result (pow_pos _) inv.0 inv.1 end.ensures.value (omega arith)
+    ∙ window_twice c.args.rows.now f.puts f.size (2 ^ f.span) end.result (pow_pos _) fits.0 fits.1 end.ensures.value (omega (arith, fits.2))
