@@ -1,5 +1,5 @@
 -- Which calls are refused, and as what: for code and promises alike. Where several reasons hold, the lowest number is told, but for a list that is too short, which comes last. Assumes nothing.
-use Rattle.std.specs.Prelude.{◌≡◌, ℕ, ◌+◌, ◌*◌, ◌^◌, Bool, if◌then◌else◌, ◌||◌, Some, None, Ok, Err, Option, Result, ◌==◌, nat_le, nat_lt}
+use Rattle.std.specs.Prelude.{◌≡◌, ℕ, ◌+◌, ◌*◌, ◌^◌, Bool, if◌then◌else◌, ◌||◌, List, ◌++◌, Some, None, Ok, Err, Option, Result, ◌==◌, nat_le, nat_lt, codes, decimal}
 use Rattle.keeper.specs.declared.lengths.Lengths.{Lengths}
 use Rattle.keeper.specs.declared.refusal.Refusal.{Refusal}
 use Rattle.keeper.specs.declared.refusal.Refusal.TheVariants.{Accuracy, Span, ShortTable, ShortList, Spent, Full, Vacant, Threshold}
@@ -17,6 +17,10 @@ number_of Spent = 6
 number_of Full = 7
 number_of Vacant = 8
 number_of Threshold = 10
+
+-- a refusal in words: `refused NUMBER`
+abbrev pub refusal_text : Refusal → List ℕ
+refusal_text refusal = codes "refused " ++ decimal (number_of refusal)
 
 -- why there is no setting of accuracy a and span k, if there is none
 abbrev pub unset : ℕ → ℕ → Option Refusal

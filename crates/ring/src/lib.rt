@@ -8,3 +8,6 @@ mod keeping;
 mod window;
 
 pub use figures::Ring;
+
+#[cfg(test)]
+mod tests;
