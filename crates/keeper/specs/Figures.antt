@@ -8,6 +8,10 @@ pub record Figures : Type 0 where
   pub puts : ℕ
   pub size : ℕ
 
+-- 2^30 puts are accepted, and no more
+abbrev pub most_puts : ℕ
+most_puts = 1073741824
+
 -- as it is made
 abbrev pub newly : ℕ → ℕ → Figures
 newly a k = record { accuracy = a; span = k; puts = 0; size = 0 }

@@ -4,7 +4,8 @@ use Rattle.keeper.specs.declared.lengths.Lengths.{Lengths}
 use Rattle.keeper.specs.declared.refusal.Refusal.{Refusal}
 use Rattle.keeper.specs.declared.refusal.Refusal.TheVariants.{Accuracy, Span, ShortTable, ShortList, Spent, Full, Vacant, Threshold}
 use Rattle.keeper.specs.declared.setting.Setting.{Setting}
-use Rattle.keeper.specs.Figures.{Figures}
+use Rattle.keeper.specs.Chosen.{least_accuracy, most_accuracy, least_margin, most_span}
+use Rattle.keeper.specs.Figures.{Figures, most_puts}
 use Rattle.keeper.specs.Tables.{short}
 
 -- the number of each refusal
@@ -25,18 +26,14 @@ refusal_text refusal = codes "refused " ++ decimal (number_of refusal)
 -- why there is no setting of accuracy a and span k, if there is none
 abbrev pub unset : ℕ → ℕ → Option Refusal
 unset a k =
-    if nat_lt a 1 || nat_lt 6 a then Some Accuracy
-    else if nat_lt k (a + 3) || nat_lt 20 k then Some Span
+    if nat_lt a least_accuracy || nat_lt most_accuracy a then Some Accuracy
+    else if nat_lt k (a + least_margin) || nat_lt most_span k then Some Span
     else None
 
 -- a setting is made of just these two numbers, unless there is a reason why not
 abbrev pub Made : ℕ → ℕ → Result Setting Refusal → Type 0
 Made a k (Ok s) = (unset a k ≡ None) × (s.accuracy ≡ a) × (s.span ≡ k)
 Made a k (Err e) = unset a k ≡ Some e
-
--- 2^30 puts are counted, and no more
-abbrev pub most_puts : ℕ
-most_puts = 1073741824
 
 -- a threshold that is not answered: 0, or one that is less than the window's size / 2^accuracy
 abbrev pub unfit : Figures → ℕ → Bool

@@ -11,7 +11,7 @@ use Rattle.keeper.specs.declared.lengths.Lengths.{Lengths}
 use Rattle.keeper.specs.declared.refusal.Refusal.{Refusal}
 use Rattle.keeper.specs.Figures.{Figures, newly, grown, shrunk}
 use Rattle.keeper.specs.Listing.{Apart, among, bracket_in}
-use Rattle.keeper.specs.Tables.{lengths, needed, short}
+use Rattle.keeper.specs.Tables.{lengths, needed}
 use Rattle.keeper.specs.Refusals.{unfit, put_answer, drop_answer, count_answer, list_answer}
 
 -- floor and ceiling, at accuracy a and in a window of n keys, for a key that truly counts `count`
@@ -80,7 +80,6 @@ module _ {S K : Type 0} (figures : S → Figures) (holds : S → List (Row K) �
           pub answer : r ≡ list_answer (needed figures need s) (lengths rows heads) (figures s) threshold (length list) (length (listing s rows heads threshold))
           pub written : is_ok r ≡ true → list' ≡ over (listing s rows heads threshold) list
           pub kept : is_ok r ≡ false → list' ≡ list
-          pub counts : short (needed figures need s) (lengths rows heads) ≡ false → unfit (figures s) threshold ≡ false
-              → All (λ e. bracket_in e ≡ bracket s rows heads e.key) (listing s rows heads threshold)
-          pub right : short (needed figures need s) (lengths rows heads) ≡ false → unfit (figures s) threshold ≡ false → (past window : List K)
-              → TrueTo s rows heads past window → Lists alike (figures s).accuracy threshold window (listing s rows heads threshold)
+          pub counts : All (λ e. bracket_in e ≡ bracket s rows heads e.key) (listing s rows heads threshold)
+          pub right : unfit (figures s) threshold ≡ false → (past window : List K) → TrueTo s rows heads past window
+              → Lists alike (figures s).accuracy threshold window (listing s rows heads threshold)

@@ -8,7 +8,7 @@ use crate::keeping::Record;
 use crate::lengths::Lengths;
 use crate::refusal::Refusal;
 
-// The most puts that a keeper counts: 2^30.
+// The most puts that a keeper accepts: 2^30.
 const MOST_PUTS: u32 = 1 << 30;
 
 /// Whether a call is refused for the tables that are lent. A count is refused for nothing else.
@@ -47,7 +47,8 @@ pub fn admit_drop<P: Record>(keeper: &P) -> Result<(), Refusal>
 
 /// Whether a list at a threshold is refused, with the tables that are lent; all but a list that is too short.
 pub fn admit_list<P: Record>(keeper: &P, lent: Lengths, threshold: u32) -> Result<(), Refusal>
-    ensures { result ≡ question_answer (needed P.Record.figures P.Record.need keeper.now) lent (P.Record.figures keeper.now) threshold (Ok tt) }
+    ensures { result ≡ question_answer (needed P.Record.figures P.Record.need keeper.now) lent (P.Record.figures keeper.now) threshold
+        (Ok tt) }
 {
     admit_tables(keeper, lent)?;
     let reach = (threshold as u64) << keeper.setting().accuracy();

@@ -1,6 +1,6 @@
 //! What makes a type a keeper.
 
-ghost use Rattle.std.specs.Prelude.{◌≡◌, ℕ, List};
+ghost use Rattle.std.specs.Prelude.{◌≡◌, ℕ, ◌^◌, ◌≤◌, List};
 ghost use Rattle.tally.specs.declared.rows.Head.{Head};
 ghost use Rattle.tally.specs.declared.rows.Row.{Row};
 ghost use Rattle.keeper.specs.declared.entry.Entry.{Entry};
@@ -36,15 +36,17 @@ pub trait Record: Sized {
     fn size(&self) -> u32
         ensures { result ≡ (figures self.now).size };
 
-    /// How long the tables have to be that are lent to it.
+    /// How long the tables have to be that are lent to it. They can be had: a need beyond all memory would refuse every call.
     fn needs(&self) -> Lengths
-        ensures { result ≡ needed figures need self.now };
+        ensures value { result ≡ needed figures need self.now }
+        ensures within { (result.rows ≤ 2 ^ 32) × (result.heads ≤ 2 ^ 32) };
 }
 
 // The two tables go side by side, since the caller owns them and lends them to each call: as a struct they would be two types,
 // of shared and of `&mut` loans, each made anew for a call, and the clauses of the second would speak of loans.
 /// A window counter. Its record holds numbers only; the tables are the caller's, who lends the same ones to each call
-/// and writes nothing to them in between.
+/// and writes nothing to them in between. No keeper is to be copied: of two that go on over the same tables, each spoils the
+/// other's.
 pub trait Keeper<K: Likeness>: Record {
     // When record and tables are true to a window, after the keys of a past were let go; both oldest first.
     ghost holds: { Self → List (Row K) → List Head → List K → List K → Type 0 };
@@ -59,19 +61,21 @@ pub trait Keeper<K: Likeness>: Record {
     fn fresh(setting: Setting) -> Self
         ensures { Fresh Self.Record.figures holds setting.accuracy setting.span result };
 
-    /// One key more at the window's end.
+    /// One key more at the window's end. Refused where a table is too short, 2^30 puts were accepted or the window is full.
     fn put(&mut self, rows: &mut [Row<K>], heads: &mut [Head], key: K) -> Result<(), Refusal>
         ensures { Put Self.Record.figures holds Self.Record.need self.old rows.old heads.old key result self.new rows.new heads.new };
 
-    /// The window's oldest key is let go.
+    /// The window's oldest key is let go. Refused where there is none.
     fn drop_oldest(&mut self) -> Result<(), Refusal>
         ensures { Dropped Self.Record.figures holds self.old result self.new };
 
-    /// Floor and ceiling: how often the window holds a key alike to this one, at least and at most.
+    /// Floor and ceiling: how often the window holds a key alike to this one, at least and at most. Refused where a table is
+    /// too short.
     fn count(&self, rows: &[Row<K>], heads: &[Head], key: &K) -> Result<(u32, u32), Refusal>
         ensures { Counted Self.Record.figures holds Self.Record.need K.Likeness.alike bracket self.now rows.now heads.now key.now result };
 
-    /// Writes an entry for each key that may stand `threshold` times or more in the window, and answers how many.
+    /// Writes an entry for each key that may stand `threshold` times or more in the window, and answers how many. Refused where
+    /// a table is too short, the threshold too low for a window of this size, or the list too short for the entries.
     fn list(
         &self,
         rows: &[Row<K>],
@@ -79,5 +83,6 @@ pub trait Keeper<K: Likeness>: Record {
         threshold: u32,
         list: &mut [Entry<K>],
     ) -> Result<usize, Refusal>
-        ensures { Listed Self.Record.figures holds Self.Record.need K.Likeness.alike bracket listing self.now rows.now heads.now threshold list.old result list.new };
+        ensures { Listed Self.Record.figures holds Self.Record.need K.Likeness.alike bracket listing
+            self.now rows.now heads.now threshold list.old result list.new };
 }

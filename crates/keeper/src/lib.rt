@@ -18,7 +18,9 @@ pub use setting::Setting;
 #[cfg(test)]
 mod tests {
     use super::*;
+    use likeness::AddressKey;
     use std::test::Fail;
+    use tally::{EMPTY, Row};
 
     #[test]
     fn settings_at_their_edges(rt: HostRuntime) {
@@ -49,6 +51,20 @@ mod tests {
         let setting = Setting::new(2, 9)?;
         assert_eq!(rt; (setting.accuracy(), setting.span()), (2, 9));
         Ok(())
+    }
+
+    #[test]
+    fn tables_and_needs(rt: HostRuntime) {
+        let row = Row {
+            key: AddressKey { bytes: *b"SDDPT" },
+            count: 1,
+        };
+        let lent = Lengths::of(&[row; 3], &[EMPTY; 2]);
+        assert_eq!(rt; lent, Lengths { rows: 3, heads: 2 });
+        assert!(rt; !lent.is_short_of(Lengths { rows: 3, heads: 2 }));
+        assert!(rt; !lent.is_short_of(Lengths { rows: 0, heads: 0 }));
+        assert!(rt; lent.is_short_of(Lengths { rows: 4, heads: 0 }));
+        assert!(rt; lent.is_short_of(Lengths { rows: 0, heads: 3 }));
     }
 
     #[test]

@@ -17,7 +17,7 @@ pub enum Refusal {
     ShortTable = 4,
     /// The list has fewer places than there are entries to write.
     ShortList = 5,
-    /// 2^30 puts have been accepted: no more are counted.
+    /// 2^30 puts have been accepted: no more are.
     Spent = 6,
     /// The window holds as many keys as it can.
     Full = 7,

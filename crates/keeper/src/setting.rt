@@ -5,10 +5,18 @@ ghost use Rattle.std.specs.Prelude.{◌≡◌, ◌+◌, ◌≤◌};
 use crate::refusal::Refusal;
 use std::marker::Model;
 
+const LEAST_ACCURACY: u32 = 1;
+
+const MOST_ACCURACY: u32 = 6;
+
+const LEAST_MARGIN: u32 = 3;
+
+const MOST_SPAN: u32 = 20;
+
 /// How exact a keeper is, and how long a window it can hold.
 ///
-/// At accuracy a the two ends of a count lie less than 1 / 2^a of the window's size apart; at span K the window holds
-/// up to 2^K keys. Whatever setting there is has both in range, so no later call looks again.
+/// At accuracy a the two ends of a count lie less than 1 / 2^a of the window's size apart (in an empty window, both are 0); at
+/// span K the window holds up to 2^K keys. Whatever setting there is has both in range, so no later call looks again.
 #[derive(Clone, Copy, PartialEq, Eq, Debug)]
 pub struct Setting {
     accuracy: u32,
@@ -34,10 +42,10 @@ impl Setting {
     pub fn new(accuracy: u32, span: u32) -> Result<Setting, Refusal>
         ensures { Made accuracy span result }
     {
-        if !(1..=6).contains(&accuracy) {
+        if !(LEAST_ACCURACY..=MOST_ACCURACY).contains(&accuracy) {
             return Err(Refusal::Accuracy);
         }
-        if !(accuracy + 3..=20).contains(&span) {
+        if !(accuracy + LEAST_MARGIN..=MOST_SPAN).contains(&span) {
             return Err(Refusal::Span);
         }
         Ok(Setting { accuracy, span })

@@ -1,6 +1,6 @@
 -- What a ring is made of. Assumes nothing.
 use Rattle.std.specs.Prelude.{◌^◌, ◌≤◌}
-use Rattle.keeper.specs.Figures.{Figures}
+use Rattle.keeper.specs.Figures.{Figures, most_puts}
 use Rattle.ring.specs.declared.figures.Ring.TheInside.{Inside}
 
 -- its figures are the setting's and its own two
@@ -10,5 +10,5 @@ figures_in r = record { accuracy = r.setting.accuracy; span = r.setting.span; pu
 -- the window is no longer than what came, nor than the rows
 pub record IsInRange (r : Inside) : Type 0 where
   pub came : r.size ≤ r.puts
-  pub counted : r.puts ≤ 2 ^ 30
+  pub counted : r.puts ≤ most_puts
   pub stored : r.size ≤ 2 ^ r.setting.span

@@ -7,11 +7,14 @@ use Rattle.keeper.specs.Listing.{listed}
 use Rattle.likeness.specs.Counts.{true_count}
 use Rattle.tally.specs.declared.rows.Head.{Head}
 use Rattle.tally.specs.declared.rows.Row.{Row}
-use Rattle.tally.specs.Steps.{entered}
 
 -- a row for each key that the longest window has, and no heads
 abbrev pub need_of : ℕ → ℕ → Lengths
 need_of a k = record { rows = 2 ^ k; heads = 0 }
+
+-- what a ring with these figures needs
+abbrev pub needs_of : Figures → Lengths
+needs_of s = need_of s.accuracy s.span
 
 -- the key in row i; none, where there is no such row
 abbrev pub key_in : {K : Type 0} → List (Row K) → ℕ → List K
@@ -38,6 +41,10 @@ exactly alike window k = (true_count alike window k, true_count alike window k)
 abbrev pub listing_of : {K : Type 0} → (K → K → Bool) → List K → ℕ → List (Entry K)
 listing_of alike window threshold = listed alike (exactly alike window) threshold window
 
+-- the list of the window that the rows have
+abbrev pub listing_in : {K : Type 0} → (K → K → Bool) → Figures → List (Row K) → ℕ → List (Entry K)
+listing_in alike s rows threshold = listing_of alike (window_of s rows) threshold
+
 -- the rows after a put that was accepted: only the row of this put is written
 abbrev pub stored : {K : Type 0} → Figures → List (Row K) → K → List (Row K)
-stored s rows k = slice_set rows (s.puts % 2 ^ s.span) (entered k)
+stored s rows k = slice_set rows (s.puts % 2 ^ s.span) (record { key = k; count = 1 })

@@ -6,7 +6,7 @@ use std::marker::Model;
 /// The keeper that stores its whole window, so that it counts exactly. The key of put number m, from 0 on, lies in row
 /// m mod 2^span. It has no use for heads.
 // The numbers stand beside the rows, and the rows are in no deque, since they are the caller's, who lends them: no heap.
-#[derive(Drop)]
+#[derive(Debug, Drop)]
 pub struct Ring {
     pub(crate) setting: Setting,
     pub(crate) puts: u32,

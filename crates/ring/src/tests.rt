@@ -37,12 +37,16 @@ fn fresh() -> Result<Ring, Refusal> {
     Ok(<Ring as Keeper<AddressKey>>::fresh(setting))
 }
 
-fn put(ring: &mut Ring, rows: &mut [Row<AddressKey>], letter: u8) -> Result<(), Refusal> {
-    ring.put(rows, &mut [], key(letter))
+fn put<P: Keeper<AddressKey>>(
+    keeper: &mut P,
+    rows: &mut [Row<AddressKey>],
+    letter: u8,
+) -> Result<(), Refusal> {
+    keeper.put(rows, &mut [], key(letter))
 }
 
-fn drop_oldest(ring: &mut Ring) -> Result<(), Refusal> {
-    <Ring as Keeper<AddressKey>>::drop_oldest(ring)
+fn drop_oldest<P: Keeper<AddressKey>>(keeper: &mut P) -> Result<(), Refusal> {
+    keeper.drop_oldest()
 }
 
 // A ring whose window has gone on to the last rows of the table, and is empty.
@@ -112,6 +116,52 @@ fn counts_truly(
 }
 
 #[test]
+fn each_put_has_its_row(rt: HostRuntime) -> Result<(), Fail> {
+    let mut rows = [row(b'-', 77); 17];
+    let setting = Setting::new(1, 4)?;
+    let mut ring = <Ring as Keeper<AddressKey>>::fresh(setting);
+    for letter in *b"ABCDEFGHIJKLMNOPQRST" {
+        if ring.size() == 16 {
+            drop_oldest(&mut ring)?;
+        }
+        put(&mut ring, &mut rows, letter)?;
+    }
+    for (row, letter) in rows.iter().zip(b"QRSTEFGHIJKLMNOP") {
+        assert_eq!(rt; (row.key.bytes[4], row.count), (*letter, 1));
+    }
+    are_rows(&rt, &rows[16..], &[row(b'-', 77)]);
+    Ok(())
+}
+
+// The example of the rules.
+#[test]
+fn sounders_of_one_kind(rt: HostRuntime) -> Result<(), Fail> {
+    let mut rows = [row(b'-', 77); 16];
+    let mut list = used_list();
+    let mut ring = Ring {
+        setting: Setting::new(1, 4)?,
+        puts: 14,
+        size: 0,
+    };
+    for bytes in [*b"SDDPT", *b"SDDBT", *b"IIDPT", *b"SDDPT", *b"SDDBT"] {
+        ring.put(&mut rows, &mut [], AddressKey { bytes })?;
+    }
+    assert_eq!(rt; (rows[2].key.bytes, rows[2].count), (*b"SDDBT", 1));
+    assert_eq!(rt; (rows[3].key.bytes, rows[3].count), (*b"SDDP-", 77));
+    assert_eq!(rt;
+        ring.count(&rows, &[], &AddressKey { bytes: *b"VWDPT" }),
+        Ok((3, 3))
+    );
+    assert_eq!(rt; ring.list(&rows, &[], 3, &mut list), Ok(1));
+    are_entries(&rt, &list[..1], &[(*b"SDDPT", 3)]);
+    assert_eq!(rt;
+        ring.list(&rows, &[], 2, &mut list),
+        Err(Refusal::Threshold)
+    );
+    Ok(())
+}
+
+#[test]
 fn a_window_round_the_rows(rt: HostRuntime) -> Result<(), Fail> {
     let mut rows = used_rows();
     let mut heads = [Head { used: 9, lost: 9 }];
@@ -176,9 +226,13 @@ fn what_the_rows_held_before(rt: HostRuntime) -> Result<(), Fail> {
         puts: 66,
         size: 5,
     };
+    rows[60] = row(b'C', 1);
     rows[1] = row(b'B', 0);
+    rows[2] = row(b'D', 1);
     assert_eq!(rt; ring.count(&rows, &[], &key(b'A')), Ok((4, 4)));
     assert_eq!(rt; ring.count(&rows, &[], &key(b'B')), Ok((1, 1)));
+    assert_eq!(rt; ring.count(&rows, &[], &key(b'C')), Ok((0, 0)));
+    assert_eq!(rt; ring.count(&rows, &[], &key(b'D')), Ok((0, 0)));
     assert_eq!(rt; ring.list(&rows, &[], 1, &mut list), Ok(2));
     are_entries(&rt, &list[..2], &[(*b"SDDPA", 4), (*b"SDDPB", 1)]);
     Ok(())
@@ -205,10 +259,17 @@ fn tables_of_a_row_too_few(rt: HostRuntime) -> Result<(), Fail> {
     are_rows(&rt, &rows, &[row(b'A', 77); 63]);
     untouched(&rt, &list);
     assert_eq!(rt; (ring.puts(), ring.size()), (1 << 30, 64));
-    assert_eq!(rt;
-        ring.count(&[row(b'A', 77); 64], &[], &key(b'A')),
-        Ok((64, 64))
-    );
+    Ok(())
+}
+
+#[test]
+fn tables_of_just_enough_rows(rt: HostRuntime) -> Result<(), Fail> {
+    let mut rows = [row(b'A', 77); 64];
+    let mut list = used_list();
+    let mut ring = fresh()?;
+    assert_eq!(rt; put(&mut ring, &mut rows, b'B'), Ok(()));
+    assert_eq!(rt; ring.count(&rows, &[], &key(b'B')), Ok((1, 1)));
+    assert_eq!(rt; ring.list(&rows, &[], 1, &mut list), Ok(1));
     Ok(())
 }
 

@@ -66,7 +66,7 @@ impl<'a, K: Likeness> DoubleEndedIterator for Window<'a, K> {
 }
 
 impl<'a, K: Likeness> Window<'a, K> {
-    // Its keys, oldest first. By hand, since a `clone` may fail.
+    // Its keys, oldest first, to be gone through: a window of its own, made by hand since a `clone` may fail.
     pub(crate) fn keys(&self) -> Window<'a, K>
         ensures { result ≡ self.now }
     {

@@ -17,8 +17,8 @@ returns g c =
       answer = c.answer_list.ensures.answer;
       written = c.answer_list.ensures.written;
       kept = c.answer_list.ensures.kept;
-      counts = λ _ _. listed_counts alike (exactly alike window) threshold window;
-      right = λ _ asked past keys t.
+      counts = listed_counts alike (exactly alike window) threshold window;
+      right = λ asked past keys t.
           subst (λ ks. Lists alike s.accuracy threshold ks (listing_of alike window threshold)) t.held
           (exact_lists alike window laws.reflexive laws.symmetric laws.transitive s.accuracy threshold (not_unfit s threshold asked));
     }
