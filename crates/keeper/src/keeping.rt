@@ -36,7 +36,8 @@ pub trait Record: Sized {
     fn size(&self) -> u32
         ensures { result ≡ (figures self.now).size };
 
-    /// How long the tables have to be that are lent to it. They can be had: a need beyond all memory would refuse every call.
+    /// How long the tables have to be that are lent to it. At most 2^32 of each, since a need beyond all memory would refuse
+    /// every call.
     fn needs(&self) -> Lengths
         ensures value { result ≡ needed figures need self.now }
         ensures within { (result.rows ≤ 2 ^ 32) × (result.heads ≤ 2 ^ 32) };

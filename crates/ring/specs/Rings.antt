@@ -12,10 +12,6 @@ use Rattle.tally.specs.declared.rows.Row.{Row}
 abbrev pub need_of : ℕ → ℕ → Lengths
 need_of a k = record { rows = 2 ^ k; heads = 0 }
 
--- what a ring with these figures needs
-abbrev pub needs_of : Figures → Lengths
-needs_of s = need_of s.accuracy s.span
-
 -- the key in row i; none, where there is no such row
 abbrev pub key_in : {K : Type 0} → List (Row K) → ℕ → List K
 key_in rows i = map (λ row. row.key) (take 1 (drop i rows))
@@ -40,10 +36,6 @@ exactly alike window k = (true_count alike window k, true_count alike window k)
 -- a list names the window's keys by their first places, if they count enough
 abbrev pub listing_of : {K : Type 0} → (K → K → Bool) → List K → ℕ → List (Entry K)
 listing_of alike window threshold = listed alike (exactly alike window) threshold window
-
--- the list of the window that the rows have
-abbrev pub listing_in : {K : Type 0} → (K → K → Bool) → Figures → List (Row K) → ℕ → List (Entry K)
-listing_in alike s rows threshold = listing_of alike (window_of s rows) threshold
 
 -- the rows after a put that was accepted: only the row of this put is written
 abbrev pub stored : {K : Type 0} → Figures → List (Row K) → K → List (Row K)

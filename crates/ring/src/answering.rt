@@ -7,7 +7,7 @@ ghost use Rattle.keeper.specs.Refusals.{count_answer, drop_answer, list_answer, 
 ghost use Rattle.keeper.specs.Tables.{lengths};
 ghost use Rattle.tally.specs.Slots.{over};
 ghost use Rattle.ring.specs.Entries.{left};
-ghost use Rattle.ring.specs.Rings.{exactly, listing_in, needs_of, stored, window_of};
+ghost use Rattle.ring.specs.Rings.{exactly, listing_of, need_of, stored, window_of};
 
 use crate::entries::Entries;
 use crate::figures::Ring;
@@ -60,7 +60,7 @@ impl Ring {
         heads: &[Head],
         key: K,
     ) -> Result<(), Refusal>
-        ensures answer { result ≡ put_answer (needs_of self.old) (lengths rows.old heads.now) self.old }
+        ensures answer { result ≡ put_answer (need_of self.old.accuracy self.old.span) (lengths rows.old heads.now) self.old }
         ensures tells { self.new ≡ (if is_ok result then grown self.old else self.old) }
         ensures rows { rows.new ≡ (if is_ok result then stored self.old rows.old key else rows.old) }
     {
@@ -88,7 +88,8 @@ impl Ring {
         heads: &[Head],
         key: &K,
     ) -> Result<(u32, u32), Refusal>
-        ensures { result ≡ count_answer (needs_of self.now) (lengths rows.now heads.now) (exactly K.alike (window_of self.now rows.now) key.now) }
+        ensures { result ≡ count_answer (need_of self.now.accuracy self.now.span) (lengths rows.now heads.now)
+            (exactly K.alike (window_of self.now rows.now) key.now) }
     {
         admit_tables(self, Lengths::of(rows, heads))?;
         let count = self.window(rows).count_alike(key);
@@ -103,9 +104,9 @@ impl Ring {
         threshold: u32,
         list: &mut [Entry<K>],
     ) -> Result<usize, Refusal>
-        ensures answer { result ≡ list_answer (needs_of self.now) (lengths rows.now heads.now) self.now threshold (length list.old)
-            (length (listing_in K.alike self.now rows.now threshold)) }
-        ensures written { is_ok result ≡ true → list.new ≡ over (listing_in K.alike self.now rows.now threshold) list.old }
+        ensures answer { result ≡ list_answer (need_of self.now.accuracy self.now.span) (lengths rows.now heads.now) self.now threshold
+            (length list.old) (length (listing_of K.alike (window_of self.now rows.now) threshold)) }
+        ensures written { is_ok result ≡ true → list.new ≡ over (listing_of K.alike (window_of self.now rows.now) threshold) list.old }
         ensures kept { is_ok result ≡ false → list.new ≡ list.old }
     {
         admit_list(self, Lengths::of(rows, heads), threshold)?;

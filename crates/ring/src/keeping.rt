@@ -3,7 +3,7 @@
 ghost use Rattle.std.specs.Prelude.{◌≡◌, ◌^◌, ◌≤◌, is_ok, if◌then◌else◌};
 ghost use Rattle.keeper.specs.Figures.{most_puts};
 ghost use Rattle.keeper.specs.Rules.{Put};
-ghost use Rattle.ring.specs.Rings.{exactly, HoldsWindow, listing_in, need_of, stored, window_of};
+ghost use Rattle.ring.specs.Rings.{exactly, HoldsWindow, listing_of, need_of, stored, window_of};
 
 use crate::figures::Ring;
 use keeper::{Entry, Keeper, Lengths, Record, Refusal, Setting};
@@ -47,7 +47,7 @@ impl<K: Likeness> Keeper<K> for Ring {
 
     ghost bracket = { λ s rows heads key. exactly K.Likeness.alike (window_of s rows) key };
 
-    ghost listing = { λ s rows heads threshold. listing_in K.Likeness.alike s rows threshold };
+    ghost listing = { λ s rows heads threshold. listing_of K.Likeness.alike (window_of s rows) threshold };
 
     fn fresh(setting: Setting) -> Ring {
         Ring {
