@@ -1,0 +1,3 @@
+pub mod Fixed
+pub mod Refusals
+pub mod Windows

@@ -1,0 +1,43 @@
+-- Which calls of a fixed window are refused, and as what. Where several reasons hold, the lowest number is told. Assumes nothing.
+use Rattle.std.specs.Prelude.{ℕ, ◌^◌, Bool, if◌then◌else◌, not, ◌||◌, List, ◌++◌, Ok, Err, Result, ◌==◌, nat_le, nat_lt, codes, decimal}
+use Rattle.keeper.specs.declared.lengths.Lengths.{Lengths}
+use Rattle.keeper.specs.declared.refusal.Refusal.{Refusal}
+use Rattle.keeper.specs.declared.refusal.Refusal.TheVariants.{ShortTable, Spent, Full}
+use Rattle.keeper.specs.Figures.{Figures, most_puts}
+use Rattle.keeper.specs.Refusals as keeper
+use Rattle.keeper.specs.Tables.{short}
+use Rattle.windows.specs.declared.refusal.WindowRefusal.{WindowRefusal}
+use Rattle.windows.specs.declared.refusal.WindowRefusal.TheVariants.{Unfit, Unfilled, Keeper}
+
+-- the number of each refusal: a keeper's is its own
+abbrev pub number_of : WindowRefusal → ℕ
+number_of Unfit = 3
+number_of Unfilled = 9
+number_of (Keeper refusal) = keeper.number_of refusal
+
+-- a refusal in words: `refused NUMBER`
+abbrev pub refusal_text : WindowRefusal → List ℕ
+refusal_text refusal = codes "refused " ++ decimal (number_of refusal)
+
+-- whether a window of this size can stand on a keeper: the size is from 1 to 2^span - 1, and the keeper's window is empty
+abbrev pub may_stand : Figures → ℕ → Bool
+may_stand f goal = not (nat_lt goal 1 || nat_le (2 ^ f.span) goal || nat_lt 0 f.size)
+
+-- whether a window has its size
+abbrev pub is_full : Figures → ℕ → Bool
+is_full f goal = f.size == goal
+
+-- what a put answers while the window is filled, by what is needed of the tables and what is lent
+abbrev pub fill_answer : Lengths → Lengths → Figures → ℕ → Result (Unit {0}) Refusal
+fill_answer need lent f goal =
+    if short need lent then Err ShortTable
+    else if nat_le most_puts f.puts then Err Spent
+    else if nat_le goal f.size then Err Full
+    else Ok tt
+
+-- what a slide answers
+abbrev pub slide_answer : Lengths → Lengths → Figures → Result (Unit {0}) Refusal
+slide_answer need lent f =
+    if short need lent then Err ShortTable
+    else if nat_le most_puts f.puts then Err Spent
+    else Ok tt

@@ -1,0 +1,68 @@
+//! A window that keeps its size.
+
+ghost use Rattle.std.specs.Prelude.{◌≡◌, ◌≤◌, ◌^◌, ◌<◌};
+ghost use Rattle.keeper.specs.Rules.{Counted, Listed};
+ghost use Rattle.windows.specs.Windows.{Slid};
+
+use crate::fixed::Sliding;
+use keeper::{Entry, Keeper, Record, Refusal};
+use likeness::Likeness;
+use tally::{Head, Row};
+
+impl<P: Record> Sliding<P> {
+    /// How many keys the window holds: always the size that it was to have.
+    pub fn size(&self) -> u32
+        ensures value { result ≡ (P.Record.figures self.now.keeper).size }
+        ensures goal { result ≡ self.now.goal }
+        ensures some { 1 ≤ result }
+        ensures fits { result < 2 ^ (P.Record.figures self.now.keeper).span }
+    {
+        self.goal
+    }
+
+    /// A key comes at the window's end, and its oldest goes. Refused where a table is too short or 2^30 puts were accepted.
+    pub fn slide<K: Likeness>(
+        &mut self,
+        rows: &mut [Row<K>],
+        heads: &mut [Head],
+        key: K,
+    ) -> Result<(), Refusal>
+    where
+        P: Keeper<K>,
+        ensures { Slid P.Record.figures P.Keeper.holds P.Record.need self.old rows.old heads.old key result self.new rows.new heads.new }
+    {
+        self.keeper.put(rows, heads, key)?;
+        self.keeper.drop_oldest()
+    }
+
+    /// The keeper's count of a key.
+    pub fn count<K: Likeness>(
+        &self,
+        rows: &[Row<K>],
+        heads: &[Head],
+        key: &K,
+    ) -> Result<(u32, u32), Refusal>
+    where
+        P: Keeper<K>,
+        ensures { Counted P.Record.figures P.Keeper.holds P.Record.need K.Likeness.alike P.Keeper.bracket
+            self.now.keeper rows.now heads.now key.now result }
+    {
+        self.keeper.count(rows, heads, key)
+    }
+
+    /// The keeper's list at a threshold.
+    pub fn list<K: Likeness>(
+        &self,
+        rows: &[Row<K>],
+        heads: &[Head],
+        threshold: u32,
+        list: &mut [Entry<K>],
+    ) -> Result<usize, Refusal>
+    where
+        P: Keeper<K>,
+        ensures { Listed P.Record.figures P.Keeper.holds P.Record.need K.Likeness.alike P.Keeper.bracket P.Keeper.listing
+            self.now.keeper rows.now heads.now threshold list.old result list.new }
+    {
+        self.keeper.list(rows, heads, threshold, list)
+    }
+}
