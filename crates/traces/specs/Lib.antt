@@ -1,0 +1,3 @@
+pub mod Account
+pub mod Model
+pub mod Stages

@@ -1,0 +1,20 @@
+//! Where a trace stands.
+
+use crate::calls::Answer;
+use keeper::Record;
+use windows::{Filling, Sliding};
+
+/// Where a trace stands: the keeper alone, or a fixed window over it.
+#[derive(Drop)]
+pub enum Stage<P: Record> {
+    Keeping(P),
+    Fills(Filling<P>),
+    Slides(Sliding<P>),
+}
+
+/// What became of a trace: where it stands, and what its calls answered, one after the other.
+#[derive(Drop)]
+pub struct Trace<K, P: Record> {
+    pub stage: Stage<P>,
+    pub answers: Vec<Answer<K>>,
+}
