@@ -13,8 +13,9 @@ use Rattle.keeper.specs.Tables.{short}
 use Rattle.keeper.specs.Rules.{Listed}
 use Rattle.traces.specs.declared.calls.Call.TheVariants.{List as ListAt}
 use Rattle.traces.specs.declared.stage.Stage.{Stage}
-use Rattle.traces.specs.declared.stage.Stage.TheVariants.{Keeping, Fills, Slides}
-use Rattle.traces.specs.Stages.{Steps, keeper_of, state_of, terms_at}
+use Rattle.traces.specs.declared.stage.Stage.TheVariants.{Keeper as KeeperAt, Filling, Sliding}
+use Rattle.traces.specs.Steps.{Steps}
+use Rattle.traces.specs.Traces.{keeper_of, state_of, terms_at}
 use Rattle.traces.specs.Model.{asked, due_in, next_by}
 use Rattle.keeper.specs.declared.entry.Entry.{Entry}
 use Rattle.keeper.specs.declared.refusal.Refusal.{Refusal}
@@ -24,7 +25,8 @@ use Rattle.traces.specs.declared.calls.Answer.{Answer}
 use Rattle.traces.specs.declared.calls.Answer.TheVariants.{Done, Refused, Counted, Listed as ListedBy, NotInTrace}
 use Rattle.traces.specs.Account.{Terms, Account, figures_of}
 use Rattle.traces.specs.Model.{Meets, ListsRight, unless_refused, list}
-use Rattle.traces.specs.Stages.{HasEntries, TellsList, written}
+use Rattle.traces.specs.Steps.{HasEntries, TellsList}
+use Rattle.traces.specs.Traces.{written}
 
 -- an answer that has a right list's entries is right
 has_entries : {K : Type 0} (alike : K → K → Bool) (t : Terms) (a : Account K) (room threshold : ℕ) (entries : List (Entry K)) (answer : Answer K) (before : List (Entry K))
@@ -70,9 +72,9 @@ module _ {K : Type 0} (alike : K → K → Bool) (t : Terms) (a : Account K) (th
 module _ {P K : Type 0} (figures : P → Figures) (need : ℕ → ℕ → Lengths) (holds : P → List (Row K) → List Head → List K → List K → Type 0) (alike : K → K → Bool) where
   -- every state has lists
   asked_list : (s : Stage P) (t : Terms) (a : Account K) (threshold : ℕ) → due_in (state_of s) t a (ListAt threshold) ≡ asked t a (ListAt threshold)
-  asked_list (Keeping p) t a threshold = refl
-  asked_list (Fills w) t a threshold = refl
-  asked_list (Slides w) t a threshold = refl
+  asked_list (KeeperAt p) t a threshold = refl
+  asked_list (Filling w) t a threshold = refl
+  asked_list (Sliding w) t a threshold = refl
 
   -- a question leaves the account as it is
   next_list : (a : Account K) (r : Result (Unit {0}) Refusal) (threshold : ℕ) → next_by a (unless_refused r (list threshold)) ≡ a

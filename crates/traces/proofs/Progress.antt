@@ -12,7 +12,8 @@ use Rattle.traces.specs.declared.calls.Call.{Call}
 use Rattle.traces.specs.declared.stage.Stage.{Stage}
 use Rattle.traces.specs.Account.{Terms, State, Account, blank}
 use Rattle.traces.specs.Model.{Conform, after, next}
-use Rattle.traces.specs.Stages.{Goes, terms_at, Stands, Steps, written}
+use Rattle.traces.specs.Steps.{Goes, Steps}
+use Rattle.traces.specs.Traces.{terms_at, Stands, written}
 
 module _ {P K : Type 0} (figures : P → Figures) (need : ℕ → ℕ → Lengths) (holds : P → List (Row K) → List Head → List K → List K → Type 0) (alike : K → K → Bool) where
   -- one call, wherever a trace stands

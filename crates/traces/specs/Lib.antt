@@ -1,3 +1,4 @@
 pub mod Account
 pub mod Model
-pub mod Stages
+pub mod Steps
+pub mod Traces

@@ -1,9 +1,9 @@
 //! Whole traces.
 
-ghost use Rattle.std.specs.Prelude.{◌≡◌, IfOk, drop, length};
+ghost use Rattle.std.specs.Prelude.{IfOk};
 ghost use Rattle.keeper.specs.Tables.{lengths};
 ghost use Rattle.traces.specs.Account.{terms};
-ghost use Rattle.traces.specs.Stages.{Runs};
+ghost use Rattle.traces.specs.Traces.{Runs};
 
 use crate::calls::Call;
 use crate::stage::{Stage, Trace};
@@ -25,12 +25,11 @@ pub fn run_trace<K: Likeness, P: Keeper<K> + Drop>(
     calls: &[Call<K>],
     heap: Global,
 ) -> Result<Trace<K, P>, AllocError>
-    ensures runs { IfOk result (λ trace. Runs P.Record.figures P.Record.need P.Keeper.holds K.Likeness.alike
-        (terms P.Record.need setting.accuracy setting.span (lengths rows.old heads.old)) calls.now list.old trace rows.new heads.new list.new) }
-    ensures rows_rest { IfOk result (λ trace. drop (P.Record.need setting.accuracy setting.span).rows rows.new ≡ drop (P.Record.need setting.accuracy setting.span).rows rows.old) }
-    ensures heads_rest { IfOk result (λ trace. drop (P.Record.need setting.accuracy setting.span).heads heads.new ≡ drop (P.Record.need setting.accuracy setting.span).heads heads.old) }
+    ensures { IfOk result (λ trace. Runs P.Record.figures P.Record.need P.Keeper.holds K.Likeness.alike
+        (terms P.Record.need setting.accuracy setting.span (lengths rows.old heads.old)) calls.now
+        rows.old heads.old list.old trace rows.new heads.new list.new) }
 {
-    let mut stage = Stage::Keeping(<P as Keeper<K>>::fresh(setting));
+    let mut stage = Stage::Keeper(<P as Keeper<K>>::fresh(setting));
     let mut answers = Vec::new(heap);
     for call in calls {
         let (next, answer) = step(stage, rows, heads, list, *call, heap)?;

@@ -7,9 +7,9 @@ use windows::{Filling, Sliding};
 /// Where a trace stands: the keeper alone, or a fixed window over it.
 #[derive(Drop)]
 pub enum Stage<P: Record> {
-    Keeping(P),
-    Fills(Filling<P>),
-    Slides(Sliding<P>),
+    Keeper(P),
+    Filling(Filling<P>),
+    Sliding(Sliding<P>),
 }
 
 /// What became of a trace: where it stands, and what its calls answered, one after the other.

@@ -1,8 +1,7 @@
 //! One call of a trace, in each of its states.
 
 ghost use Rattle.std.specs.Prelude.{◌≡◌, ◌≤◌, IfOk, length, take};
-ghost use Rattle.traces.specs.declared.stage.Stage.TheVariants.{Keeping, Fills, Slides};
-ghost use Rattle.traces.specs.Stages.{Steps, TellsCount, TellsDone, TellsList};
+ghost use Rattle.traces.specs.Steps.{Steps, TellsCount, TellsDone, TellsList};
 
 use crate::calls::{Answer, Call};
 use crate::stage::Stage;
@@ -10,7 +9,7 @@ use keeper::{Entry, Keeper, Refusal};
 use likeness::Likeness;
 use std::alloc::{AllocError, Global};
 use tally::{Head, Row};
-use windows::{Filling, Sliding, WindowRefusal};
+use windows::{Filling, Sliding};
 
 // What is told of a call that only changes the window.
 fn told<K>(outcome: Result<(), Refusal>) -> Answer<K>
@@ -18,7 +17,7 @@ fn told<K>(outcome: Result<(), Refusal>) -> Answer<K>
 {
     match outcome {
         Ok(()) => Answer::Done,
-        Err(refusal) => Answer::Refused(WindowRefusal::Keeper(refusal)),
+        Err(refusal) => Answer::Refused(refusal.into()),
     }
 }
 
@@ -28,7 +27,7 @@ fn counted<K>(outcome: Result<(u32, u32), Refusal>) -> Answer<K>
 {
     match outcome {
         Ok((floor, ceiling)) => Answer::Counted { floor, ceiling },
-        Err(refusal) => Answer::Refused(WindowRefusal::Keeper(refusal)),
+        Err(refusal) => Answer::Refused(refusal.into()),
     }
 }
 
@@ -47,7 +46,7 @@ fn listed<K: Likeness>(
             entries.extend_from_slice(&list[..count])?;
             Ok(Answer::Listed(entries))
         }
-        Err(refusal) => Ok(Answer::Refused(WindowRefusal::Keeper(refusal))),
+        Err(refusal) => Ok(Answer::Refused(refusal.into())),
     }
 }
 
@@ -60,31 +59,31 @@ fn at_keeper<K: Likeness, P: Keeper<K> + Drop>(
     call: Call<K>,
     heap: Global,
 ) -> Result<(Stage<P>, Answer<K>), AllocError>
-    ensures { IfOk result (λ next. Steps P.Record.figures P.Record.need P.Keeper.holds K.Likeness.alike (Keeping keeper) rows.old heads.old list.old call next.0 next.1 rows.new heads.new list.new) }
+    ensures { IfOk result (λ next. Steps P.Record.figures P.Record.need P.Keeper.holds K.Likeness.alike (Stage.Keeper keeper) rows.old heads.old list.old call next.0 next.1 rows.new heads.new list.new) }
 {
     match call {
         Call::Fix(goal) => match Filling::new(keeper, goal) {
-            Ok(filling) => Ok((Stage::Fills(filling), Answer::Done)),
-            Err(back) => Ok((Stage::Keeping(back.value), Answer::Refused(back.refusal))),
+            Ok(filling) => Ok((Stage::Filling(filling), Answer::Done)),
+            Err(back) => Ok((Stage::Keeper(back.value), Answer::Refused(back.refusal))),
         },
         Call::Put(key) => {
             let outcome = keeper.put(rows, heads, key);
-            Ok((Stage::Keeping(keeper), told(outcome)))
+            Ok((Stage::Keeper(keeper), told(outcome)))
         }
         Call::DropOldest => {
             let outcome = keeper.drop_oldest();
-            Ok((Stage::Keeping(keeper), told(outcome)))
+            Ok((Stage::Keeper(keeper), told(outcome)))
         }
         Call::Count(key) => {
             let outcome = keeper.count(rows, heads, &key);
-            Ok((Stage::Keeping(keeper), counted(outcome)))
+            Ok((Stage::Keeper(keeper), counted(outcome)))
         }
         Call::List(threshold) => {
             let outcome = keeper.list(rows, heads, threshold, list);
             let answer = listed(outcome, list, heap)?;
-            Ok((Stage::Keeping(keeper), answer))
+            Ok((Stage::Keeper(keeper), answer))
         }
-        Call::Turn | Call::Slide(_) => Ok((Stage::Keeping(keeper), Answer::NotInTrace)),
+        Call::Turn | Call::Slide(_) => Ok((Stage::Keeper(keeper), Answer::NotInTrace)),
     }
 }
 
@@ -97,28 +96,28 @@ fn at_filling<K: Likeness, P: Keeper<K> + Drop>(
     call: Call<K>,
     heap: Global,
 ) -> Result<(Stage<P>, Answer<K>), AllocError>
-    ensures { IfOk result (λ next. Steps P.Record.figures P.Record.need P.Keeper.holds K.Likeness.alike (Fills window) rows.old heads.old list.old call next.0 next.1 rows.new heads.new list.new) }
+    ensures { IfOk result (λ next. Steps P.Record.figures P.Record.need P.Keeper.holds K.Likeness.alike (Stage.Filling window) rows.old heads.old list.old call next.0 next.1 rows.new heads.new list.new) }
 {
     match call {
         Call::Put(key) => {
             let outcome = window.put(rows, heads, key);
-            Ok((Stage::Fills(window), told(outcome)))
+            Ok((Stage::Filling(window), told(outcome)))
         }
         Call::Turn => match window.turn() {
-            Ok(sliding) => Ok((Stage::Slides(sliding), Answer::Done)),
-            Err(back) => Ok((Stage::Fills(back.value), Answer::Refused(back.refusal))),
+            Ok(sliding) => Ok((Stage::Sliding(sliding), Answer::Done)),
+            Err(back) => Ok((Stage::Filling(back.value), Answer::Refused(back.refusal))),
         },
         Call::Count(key) => {
             let outcome = window.count(rows, heads, &key);
-            Ok((Stage::Fills(window), counted(outcome)))
+            Ok((Stage::Filling(window), counted(outcome)))
         }
         Call::List(threshold) => {
             let outcome = window.list(rows, heads, threshold, list);
             let answer = listed(outcome, list, heap)?;
-            Ok((Stage::Fills(window), answer))
+            Ok((Stage::Filling(window), answer))
         }
         Call::Fix(_) | Call::DropOldest | Call::Slide(_) => {
-            Ok((Stage::Fills(window), Answer::NotInTrace))
+            Ok((Stage::Filling(window), Answer::NotInTrace))
         }
     }
 }
@@ -132,24 +131,24 @@ fn at_sliding<K: Likeness, P: Keeper<K> + Drop>(
     call: Call<K>,
     heap: Global,
 ) -> Result<(Stage<P>, Answer<K>), AllocError>
-    ensures { IfOk result (λ next. Steps P.Record.figures P.Record.need P.Keeper.holds K.Likeness.alike (Slides window) rows.old heads.old list.old call next.0 next.1 rows.new heads.new list.new) }
+    ensures { IfOk result (λ next. Steps P.Record.figures P.Record.need P.Keeper.holds K.Likeness.alike (Stage.Sliding window) rows.old heads.old list.old call next.0 next.1 rows.new heads.new list.new) }
 {
     match call {
         Call::Slide(key) => {
             let outcome = window.slide(rows, heads, key);
-            Ok((Stage::Slides(window), told(outcome)))
+            Ok((Stage::Sliding(window), told(outcome)))
         }
         Call::Count(key) => {
             let outcome = window.count(rows, heads, &key);
-            Ok((Stage::Slides(window), counted(outcome)))
+            Ok((Stage::Sliding(window), counted(outcome)))
         }
         Call::List(threshold) => {
             let outcome = window.list(rows, heads, threshold, list);
             let answer = listed(outcome, list, heap)?;
-            Ok((Stage::Slides(window), answer))
+            Ok((Stage::Sliding(window), answer))
         }
         Call::Fix(_) | Call::Put(_) | Call::DropOldest | Call::Turn => {
-            Ok((Stage::Slides(window), Answer::NotInTrace))
+            Ok((Stage::Sliding(window), Answer::NotInTrace))
         }
     }
 }
@@ -166,8 +165,8 @@ pub(crate) fn step<K: Likeness, P: Keeper<K> + Drop>(
     ensures { IfOk result (λ next. Steps P.Record.figures P.Record.need P.Keeper.holds K.Likeness.alike stage rows.old heads.old list.old call next.0 next.1 rows.new heads.new list.new) }
 {
     match stage {
-        Stage::Keeping(keeper) => at_keeper(keeper, rows, heads, list, call, heap),
-        Stage::Fills(window) => at_filling(window, rows, heads, list, call, heap),
-        Stage::Slides(window) => at_sliding(window, rows, heads, list, call, heap),
+        Stage::Keeper(keeper) => at_keeper(keeper, rows, heads, list, call, heap),
+        Stage::Filling(window) => at_filling(window, rows, heads, list, call, heap),
+        Stage::Sliding(window) => at_sliding(window, rows, heads, list, call, heap),
     }
 }

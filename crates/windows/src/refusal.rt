@@ -40,10 +40,11 @@ impl WindowRefusal {
     }
 }
 
+/// A keeper's refusal is one of the window over it.
 impl From<Refusal> for WindowRefusal {
-    fn from(refusal: Refusal) -> WindowRefusal
-        ensures { result ≡ Keeper refusal }
-    {
+    ghost from_gives = { λ refusal given. given ≡ Keeper refusal };
+
+    fn from(refusal: Refusal) -> WindowRefusal {
         WindowRefusal::Keeper(refusal)
     }
 }

@@ -1,10 +1,10 @@
-use Rattle.traces.specs.declared.stage.Stage.TheVariants.{Slides}
+use Rattle.traces.specs.declared.stage.Stage.TheVariants.{Sliding}
 use Rattle.traces.proofs.Listed.{steps_list}
 use Rattle.traces.proofs.Slid.{steps_slide}
 use Rattle.traces.proofs.steps.at_sliding.Goals as goal
 
 pub returns-in_ok-answer-in-List : goal.returns-in_ok-answer-in-List
-returns-in_ok-answer-in-List g c = rw c.in-List.is (steps_list g.P.Record.figures g.P.Record.need g.P.Keeper.holds g.K.Likeness.alike _ _ (Slides c.args.window) _ _ _ _ _ c.list-outcome.result _ c.list-outcome.ensures c.in_ok-answer-in-List.ensures)
+returns-in_ok-answer-in-List g c = rw c.in-List.is (steps_list g.P.Record.figures g.P.Record.need g.P.Keeper.holds g.K.Likeness.alike _ _ (Sliding c.args.window) _ _ _ _ _ c.list-outcome.result _ c.list-outcome.ensures c.in_ok-answer-in-List.ensures)
 
 pub returns-in-Slide : goal.returns-in-Slide
 returns-in-Slide g c =
