@@ -10,23 +10,19 @@ use Rattle.keeper.specs.declared.lengths.Lengths.{Lengths}
 use Rattle.keeper.specs.Figures.{Figures}
 use Rattle.keeper.specs.Refusals.{unfit, question_answer}
 use Rattle.keeper.specs.Tables.{short}
-use Rattle.keeper.specs.Rules.{Listed}
 use Rattle.traces.specs.declared.calls.Call.TheVariants.{List as ListAt}
 use Rattle.traces.specs.declared.stage.Stage.{Stage}
 use Rattle.traces.specs.declared.stage.Stage.TheVariants.{Keeper as KeeperAt, Filling, Sliding}
-use Rattle.traces.specs.Steps.{Steps}
-use Rattle.traces.specs.Traces.{keeper_of, state_of, terms_at}
-use Rattle.traces.specs.Model.{asked, due_in, next_by}
 use Rattle.keeper.specs.declared.entry.Entry.{Entry}
 use Rattle.keeper.specs.declared.refusal.Refusal.{Refusal}
 use Rattle.keeper.specs.declared.refusal.Refusal.TheVariants.{ShortTable, Threshold, ShortList}
-use Rattle.keeper.specs.Rules.{Lists}
+use Rattle.keeper.specs.Rules.{Listed, Lists}
 use Rattle.traces.specs.declared.calls.Answer.{Answer}
 use Rattle.traces.specs.declared.calls.Answer.TheVariants.{Done, Refused, Counted, Listed as ListedBy, NotInTrace}
 use Rattle.traces.specs.Account.{Terms, Account, figures_of}
-use Rattle.traces.specs.Model.{Meets, ListsRight, unless_refused, list}
-use Rattle.traces.specs.Steps.{HasEntries, TellsList}
-use Rattle.traces.specs.Traces.{written}
+use Rattle.traces.specs.Model.{Meets, ListsRight, asked, due_in, list, next_by, unless_refused}
+use Rattle.traces.specs.Steps.{HasEntries, Steps, TellsList}
+use Rattle.traces.specs.Traces.{keeper_of, state_of, terms_at, written}
 
 -- an answer that has a right list's entries is right
 has_entries : {K : Type 0} (alike : K → K → Bool) (t : Terms) (a : Account K) (room threshold : ℕ) (entries : List (Entry K)) (answer : Answer K) (before : List (Entry K))
@@ -91,8 +87,8 @@ module _ {P K : Type 0} (figures : P → Figures) (need : ℕ → ℕ → Length
         let a : Account K = record { state = state_of s; past = past; window = window } in
         let same : unfit (figures (keeper_of s)) threshold ≡ unfit (figures_of t a) threshold = ap (λ n. threshold == 0 || nat_lt (threshold * 2 ^ (figures (keeper_of s)).accuracy) n) true_to.size in
         let both = listed alike t a threshold before now (listing (keeper_of s) rows heads threshold) (short t.need t.lent) (unfit (figures_of t a) threshold) r answer
-              (e.answer ∙ ap (λ u. if short t.need t.lent then Err ShortTable else if u then Err Threshold else if nat_lt (length before) (length (listing (keeper_of s) rows heads threshold)) then Err ShortList else Ok (length (listing (keeper_of s) rows heads threshold))) same)
-              tells e.written e.kept (λ h. e.right (same ∙ h) past window true_to) in
+        (e.answer ∙ ap (λ u. if short t.need t.lent then Err ShortTable else if u then Err Threshold else if nat_lt (length before) (length (listing (keeper_of s) rows heads threshold)) then Err ShortList else Ok (length (listing (keeper_of s) rows heads threshold))) same)
+        tells e.written e.kept (λ h. e.right (same ∙ h) past window true_to) in
         rw (asked_list s t a threshold) (rw (next_list a (question_answer t.need t.lent (figures_of t a) threshold (Ok tt)) threshold) (both.0, both.1, record { state = refl; terms = refl; true_to = true_to }));
     rows_rest = refl;
     heads_rest = refl;

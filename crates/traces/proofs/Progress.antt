@@ -70,6 +70,7 @@ module _ {P K : Type 0} (figures : P → Figures) (need : ℕ → ℕ → Length
     pub so_far_end : (s : Stage P) (answers : List (Answer K)) (rows' : List (Row K)) (heads' : List Head) (list' : List (Entry K))
         → SoFar t calls list rows heads [] s answers rows' heads' list'
         → Conform alike t (length list) blank calls answers × Stands figures need holds t (after t blank calls) s rows' heads'
-    so_far_end s answers rows' heads' list' h =
-        (subst (Conform alike t (length list) blank calls) (append-nil answers) (h.right [] tt),
-         subst (λ a. Stands figures need holds t a s rows' heads') h.leads h.stands)
+    so_far_end s answers rows' heads' list' h = (
+      subst (Conform alike t (length list) blank calls) (append-nil answers) (h.right [] tt),
+      subst (λ a. Stands figures need holds t a s rows' heads') h.leads h.stands,
+    )

@@ -22,9 +22,8 @@ use Rattle.traces.specs.Steps.{Goes, Steps, TellsDone}
 use Rattle.traces.specs.Traces.{written, Stands, terms_at}
 
 module _ {P K : Type 0} (figures : P → Figures) (need : ℕ → ℕ → Lengths) (holds : P → List (Row K) → List Head → List K → List K → Type 0) (alike : K → K → Bool)
-  (w w' : Fixed P) (rows rows' : List (Row K)) (heads heads' : List Head) (list : List (Entry K)) (key : K) (r : Result (Unit {0}) Refusal) (answer : Answer K)
-  (e : windows.Slid figures holds need w rows heads key r w' rows' heads') (some : 1 ≤ (figures w.keeper).size) (rows_kept : length rows' ≡ length rows) (heads_kept : length heads' ≡ length heads) (tells : TellsDone r answer) where
-
+    (w w' : Fixed P) (rows rows' : List (Row K)) (heads heads' : List Head) (list : List (Entry K)) (key : K) (r : Result (Unit {0}) Refusal) (answer : Answer K)
+    (e : windows.Slid figures holds need w rows heads key r w' rows' heads') (some : 1 ≤ (figures w.keeper).size) (rows_kept : length rows' ≡ length rows) (heads_kept : length heads' ≡ length heads) (tells : TellsDone r answer) where
   same_terms : is_ok r ≡ true → terms_at figures need holds (Sliding w') rows' heads' ≡ terms_at figures need holds (Sliding w) rows heads
   same_terms ok = rw rows_kept (rw heads_kept (rw (e.tells ok) refl))
 
@@ -55,7 +54,7 @@ module _ {P K : Type 0} (figures : P → Figures) (need : ℕ → ℕ → Length
   pub steps_slide : Steps figures need holds alike (Sliding w) rows heads list (Slide key) (Sliding w') answer rows' heads' list
   steps_slide = record {
     goes = λ past. elim [
-        [] ↦ λ h. absurd (omega (arith, some, h.size))
+      | [] ↦ λ h. absurd (omega (arith, some, h.size))
       | oldest ∷ rest ↦ λ h. goes past oldest rest h
     ];
     rows_rest = e.rows_rest;

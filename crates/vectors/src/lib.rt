@@ -3,8 +3,4 @@
 #![tactic(auto)]
 
 #[cfg(test)]
-mod common;
-#[cfg(test)]
-mod traces_tests;
-#[cfg(test)]
-mod windows_tests;
+mod tests;

@@ -1,4 +1,4 @@
-use crate::common::{are_entries, are_rows, key, untouched, used_list, used_rows};
+use super::{are_entries, are_rows, key, untouched, used_list, used_rows};
 use keeper::{Record, Setting};
 use likeness::{AddressKey, true_count};
 use ring::Ring;
@@ -77,8 +77,14 @@ fn a_trace_through_all_states(rt: HostRuntime) -> Result<(), Fail> {
     let mut rows = used_rows();
     let mut list = used_list();
     let setting = Setting::new(1, 4)?;
-    let Trace { stage, answers } =
-        run_trace::<AddressKey, Ring>(setting, &mut rows, &mut [], &mut list, &calls, rt.alloc())?;
+    let Trace { stage, answers } = run_trace::<AddressKey, Ring>(
+        setting,
+        &mut rows,
+        &mut [],
+        &mut list,
+        &calls,
+        rt.alloc(),
+    )?;
     are_answers(&rt, &answers, &wanted);
     are_entries(&rt, &list[..1], &[(b'C', 2)]);
     untouched(&rt, &list[1..]);
@@ -109,8 +115,14 @@ fn tables_of_a_row_too_few(rt: HostRuntime) -> Result<(), Fail> {
     }
     let mut rows = [used_rows()[0]; 15];
     let setting = Setting::new(1, 4)?;
-    let Trace { stage, answers } =
-        run_trace::<AddressKey, Ring>(setting, &mut rows, &mut [], &mut [], &calls, rt.alloc())?;
+    let Trace { stage, answers } = run_trace::<AddressKey, Ring>(
+        setting,
+        &mut rows,
+        &mut [],
+        &mut [],
+        &calls,
+        rt.alloc(),
+    )?;
     are_answers(&rt, &answers, &wanted);
     are_rows(&rt, &rows, &used_rows()[..15]);
     assert!(rt; matches!(&stage, Stage::Filling(_)));
@@ -127,8 +139,14 @@ fn a_list_without_room(rt: HostRuntime) -> Result<(), Fail> {
     ];
     let mut rows = used_rows();
     let setting = Setting::new(1, 4)?;
-    let Trace { stage, answers } =
-        run_trace::<AddressKey, Ring>(setting, &mut rows, &mut [], &mut [], &calls, rt.alloc())?;
+    let Trace { stage, answers } = run_trace::<AddressKey, Ring>(
+        setting,
+        &mut rows,
+        &mut [],
+        &mut [],
+        &calls,
+        rt.alloc(),
+    )?;
     assert_eq!(rt; answers.len(), 4);
     is_answer(&rt, &answers[0], Wanted::Listed(&[]));
     is_answer(&rt, &answers[2], Wanted::Refused(5));

@@ -1,5 +1,8 @@
 //! Keys, rings and comparisons that the tests share.
 
+mod traces;
+mod windows;
+
 use keeper::{Entry, Keeper, Refusal, Setting};
 use likeness::{AddressKey, true_count};
 use ring::Ring;
@@ -7,23 +10,23 @@ use std::process::Abort;
 use tally::Row;
 
 // The rows that a ring of span 4 needs.
-pub const ROWS: usize = 16;
+const ROWS: usize = 16;
 
-pub fn key(letter: u8) -> AddressKey {
+fn key(letter: u8) -> AddressKey {
     AddressKey {
         bytes: [b'S', b'D', b'D', b'P', letter],
     }
 }
 
 // Rows that were used before.
-pub fn used_rows() -> [Row<AddressKey>; ROWS] {
+fn used_rows() -> [Row<AddressKey>; ROWS] {
     [Row {
         key: key(b'A'),
         count: 77,
     }; ROWS]
 }
 
-pub fn used_list() -> [Entry<AddressKey>; 4] {
+fn used_list() -> [Entry<AddressKey>; 4] {
     [Entry {
         key: key(b'Z'),
         floor: 5,
@@ -32,12 +35,12 @@ pub fn used_list() -> [Entry<AddressKey>; 4] {
 }
 
 // Accuracy 1, and a window of up to 16 keys.
-pub fn fresh() -> Result<Ring, Refusal> {
+fn fresh() -> Result<Ring, Refusal> {
     let setting = Setting::new(1, 4)?;
     Ok(<Ring as Keeper<AddressKey>>::fresh(setting))
 }
 
-pub fn are_rows(rt: &impl Abort, rows: &[Row<AddressKey>], wanted: &[Row<AddressKey>]) {
+fn are_rows(rt: &impl Abort, rows: &[Row<AddressKey>], wanted: &[Row<AddressKey>]) {
     assert_eq!(rt; rows.len(), wanted.len());
     for (row, other) in rows.iter().zip(wanted) {
         assert_eq!(rt; (row.key.bytes, row.count), (other.key.bytes, other.count));
@@ -45,7 +48,7 @@ pub fn are_rows(rt: &impl Abort, rows: &[Row<AddressKey>], wanted: &[Row<Address
 }
 
 // Whether these are the entries of exactly so many keys each.
-pub fn are_entries(rt: &impl Abort, list: &[Entry<AddressKey>], wanted: &[(u8, u32)]) {
+fn are_entries(rt: &impl Abort, list: &[Entry<AddressKey>], wanted: &[(u8, u32)]) {
     assert_eq!(rt; list.len(), wanted.len());
     for (entry, (letter, count)) in list.iter().zip(wanted) {
         assert_eq!(rt;
@@ -56,7 +59,7 @@ pub fn are_entries(rt: &impl Abort, list: &[Entry<AddressKey>], wanted: &[(u8, u
 }
 
 // Whether the list is as it was before.
-pub fn untouched(rt: &impl Abort, list: &[Entry<AddressKey>]) {
+fn untouched(rt: &impl Abort, list: &[Entry<AddressKey>]) {
     for entry in list {
         assert_eq!(rt;
             (entry.key.bytes, entry.floor, entry.ceiling),
@@ -66,7 +69,7 @@ pub fn untouched(rt: &impl Abort, list: &[Entry<AddressKey>]) {
 }
 
 // Whether a bracket is the exact count of a key in a window that is there whole.
-pub fn is_exact(rt: &impl Abort, bracket: (u32, u32), window: &[AddressKey], letter: u8) {
+fn is_exact(rt: &impl Abort, bracket: (u32, u32), window: &[AddressKey], letter: u8) {
     let count = true_count(window, &key(letter));
     assert_eq!(rt; (bracket.0 as usize, bracket.1 as usize), (count, count));
 }

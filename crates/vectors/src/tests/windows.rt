@@ -1,4 +1,4 @@
-use crate::common::{are_entries, are_rows, fresh, is_exact, key, untouched, used_list, used_rows};
+use super::{are_entries, are_rows, fresh, is_exact, key, untouched, used_list, used_rows};
 use keeper::{Keeper, Record, Refusal};
 use likeness::AddressKey;
 use ring::Ring;
@@ -17,11 +17,7 @@ fn filling(goal: u32) -> Result<Filling<Ring>, Fail> {
 }
 
 // A window of this size that slides, with these keys.
-fn sliding(
-    rows: &mut [Row<AddressKey>],
-    goal: u32,
-    letters: &[u8],
-) -> Result<Sliding<Ring>, Fail> {
+fn sliding(rows: &mut [Row<AddressKey>], goal: u32, letters: &[u8]) -> Result<Sliding<Ring>, Fail> {
     let mut window = filling(goal)?;
     for letter in letters {
         window.put(rows, &mut [], key(*letter))?;
@@ -75,8 +71,14 @@ fn puts_until_it_has_its_size(rt: HostRuntime) -> Result<(), Fail> {
         assert_eq!(rt; window.size(), size);
     }
     let before = rows;
-    assert_eq!(rt; window.put(&mut rows[..15], &mut [], key(b'C')), Err(Refusal::ShortTable));
-    assert_eq!(rt; window.put(&mut rows, &mut [], key(b'C')), Err(Refusal::Full));
+    assert_eq!(rt;
+        window.put(&mut rows[..15], &mut [], key(b'C')),
+        Err(Refusal::ShortTable)
+    );
+    assert_eq!(rt;
+        window.put(&mut rows, &mut [], key(b'C')),
+        Err(Refusal::Full)
+    );
     are_rows(&rt, &rows, &before);
     assert_eq!(rt; (window.size(), window.goal()), (3, 3));
     assert_eq!(rt; window.count(&rows, &[], &key(b'A')), Ok((2, 2)));
@@ -161,8 +163,14 @@ fn questions_to_both(rt: HostRuntime) -> Result<(), Fail> {
     for letter in b"ABBCB" {
         window.put(&mut rows, &mut [], key(*letter))?;
     }
-    assert_eq!(rt; window.list(&rows, &[], 2, &mut list), Err(Refusal::Threshold));
-    assert_eq!(rt; window.list(&rows, &[], 3, &mut []), Err(Refusal::ShortList));
+    assert_eq!(rt;
+        window.list(&rows, &[], 2, &mut list),
+        Err(Refusal::Threshold)
+    );
+    assert_eq!(rt;
+        window.list(&rows, &[], 3, &mut []),
+        Err(Refusal::ShortList)
+    );
     untouched(&rt, &list);
     assert_eq!(rt; window.list(&rows, &[], 3, &mut list), Ok(1));
     are_entries(&rt, &list[..1], &[(b'B', 3)]);
@@ -171,9 +179,18 @@ fn questions_to_both(rt: HostRuntime) -> Result<(), Fail> {
     };
     window.slide(&mut rows, &mut [], key(b'C'))?;
     window.slide(&mut rows, &mut [], key(b'C'))?;
-    assert_eq!(rt; window.list(&rows[..15], &[], 0, &mut list), Err(Refusal::ShortTable));
-    assert_eq!(rt; window.list(&rows, &[], 0, &mut list), Err(Refusal::Threshold));
-    assert_eq!(rt; window.list(&rows, &[], 3, &mut []), Err(Refusal::ShortList));
+    assert_eq!(rt;
+        window.list(&rows[..15], &[], 0, &mut list),
+        Err(Refusal::ShortTable)
+    );
+    assert_eq!(rt;
+        window.list(&rows, &[], 0, &mut list),
+        Err(Refusal::Threshold)
+    );
+    assert_eq!(rt;
+        window.list(&rows, &[], 3, &mut []),
+        Err(Refusal::ShortList)
+    );
     are_entries(&rt, &list[..1], &[(b'B', 3)]);
     assert_eq!(rt; window.list(&rows, &[], 3, &mut list), Ok(1));
     are_entries(&rt, &list[..1], &[(b'C', 3)]);
