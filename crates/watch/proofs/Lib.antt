@@ -1,2 +1,2 @@
-mod Folds
+mod Pieces
 mod Reports

@@ -1,3 +1,4 @@
+pub mod Counters
 pub mod Printed
 pub mod Report
 pub mod Progress
