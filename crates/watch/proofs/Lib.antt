@@ -1,2 +1,3 @@
+mod Moves
 mod Pieces
 mod Reports

@@ -1,4 +1,6 @@
 pub mod Counters
+pub mod Latest
 pub mod Printed
-pub mod Report
 pub mod Progress
+pub mod Report
+pub mod States

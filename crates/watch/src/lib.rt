@@ -10,10 +10,12 @@ use std::marker::Model;
 
 mod calls;
 mod counter;
+mod latest;
 mod readings;
 mod treat;
 
 pub use counter::Counter;
+pub use latest::Latest;
 pub use readings::Readings;
 
 use treat::Counts;
