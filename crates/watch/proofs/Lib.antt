@@ -1,3 +1,5 @@
+mod Addresses
 mod Moves
 mod Pieces
 mod Reports
+mod Settled

@@ -1,4 +1,5 @@
 pub mod Counters
+pub mod Kinds
 pub mod Latest
 pub mod Printed
 pub mod Progress

@@ -10,11 +10,13 @@ use std::marker::Model;
 
 mod calls;
 mod counter;
+mod kinds;
 mod latest;
 mod readings;
 mod treat;
 
 pub use counter::Counter;
+pub use kinds::Kinds;
 pub use latest::Latest;
 pub use readings::Readings;
 
