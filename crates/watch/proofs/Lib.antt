@@ -3,3 +3,4 @@ mod Moves
 mod Pieces
 mod Reports
 mod Settled
+mod Streams

@@ -13,12 +13,14 @@ mod counter;
 mod kinds;
 mod latest;
 mod readings;
+mod stream;
 mod treat;
 
 pub use counter::Counter;
 pub use kinds::Kinds;
 pub use latest::Latest;
 pub use readings::Readings;
+pub use stream::run;
 
 use treat::Counts;
 
@@ -34,6 +36,9 @@ pub struct Watch<C: Counter> {
 
 /// What bedwatch says: how many lines are readings.
 pub type Bedwatch = Watch<Readings>;
+
+/// What linewatch says: which kinds of sentence are many.
+pub type Linewatch = Watch<Kinds>;
 
 // A watch is how far it has come, and its counter.
 impl<C: Counter> Model for Watch<C> {
