@@ -1,9 +1,9 @@
 //! The calls of a watch.
 
-ghost use Rattle.std.specs.Prelude.{◌≡◌, ℕ, ◌≤◌, List, [], ◌++◌, string_bytes, IfOk, OnOk, ◌==◌};
+ghost use Rattle.std.specs.Prelude.{◌≡◌, ℕ, ◌+◌, ◌≤◌, List, [], ◌++◌, string_bytes, OnOk, ◌==◌};
 ghost use Rattle.lines.specs.Lines.{CutRight};
-ghost use Rattle.watch.specs.Progress.{bytes_text, bytes_values, Fed, last_text, start, take_bytes};
-ghost use Rattle.watch.specs.Report.{most_lines, report};
+ghost use Rattle.watch.specs.Progress.{byte_texts, bytes_text, bytes_values, Fed, last_text, start, take_byte, take_bytes};
+ghost use Rattle.watch.specs.Report.{lines_report, most_lines, report, values_of};
 
 use crate::counter::Counter;
 use crate::treat::Counts;
@@ -26,26 +26,32 @@ impl<C: Counter> Watch<C> {
         }
     }
 
-    /// Takes the next piece of the input, and appends what is printed about it.
-    pub fn feed(self, piece: &[u8], out: &mut String) -> Result<Watch<C>, AllocError>
-        ensures value { IfOk result (λ after. after.progress ≡ take_bytes self.progress piece.now) }
-        ensures counted { IfOk result (λ after. (values : List C.Value) → C.holds self.counter values → C.holds after.counter (values ++ bytes_values C.reading self.progress piece.now)) }
-        ensures text { OnOk result (string_bytes out.new ≡ string_bytes out.old ++ bytes_text C.reading self.progress piece.now) }
-        ensures fed { IfOk result (λ after. (input said : List ℕ) → Fed C.reading C.holds self input said → Fed C.reading C.holds after (input ++ piece.now) (said ++ bytes_text C.reading self.progress piece.now)) }
+    // Takes one byte: an LF ends the line under way, which is treated then.
+    fn take(&mut self, byte: u8, out: &mut String) -> Result<(), AllocError>
+        ensures value { OnOk result (self.new.progress ≡ take_byte self.old.progress byte) }
+        ensures counted { OnOk result ((values : List C.Value) → C.holds self.old.counter values → C.holds self.new.counter (values ++ values_of C.reading (byte_texts self.old.progress byte))) }
+        ensures text { OnOk result (string_bytes out.new ≡ string_bytes out.old ++ lines_report C.reading (self.old.progress.lines + 1) (byte_texts self.old.progress byte)) }
     {
-        let Watch {
-            mut cutter,
-            mut counts,
-        } = self;
-        for byte in piece {
-            if *byte == LF {
-                counts = counts.treat(cutter.line(), out)?;
-                cutter.clear();
-            } else {
-                cutter.keep(*byte);
-            }
+        if byte == LF {
+            self.counts.treat(self.cutter.line(), out)?;
+            self.cutter.clear();
+        } else {
+            self.cutter.keep(byte);
         }
-        Ok(Watch { cutter, counts })
+        Ok(())
+    }
+
+    /// Takes the next piece of the input, and appends what is printed about it.
+    pub fn feed(&mut self, piece: &[u8], out: &mut String) -> Result<(), AllocError>
+        ensures value { OnOk result (self.new.progress ≡ take_bytes self.old.progress piece.now) }
+        ensures counted { OnOk result ((values : List C.Value) → C.holds self.old.counter values → C.holds self.new.counter (values ++ bytes_values C.reading self.old.progress piece.now)) }
+        ensures text { OnOk result (string_bytes out.new ≡ string_bytes out.old ++ bytes_text C.reading self.old.progress piece.now) }
+        ensures fed { (input said : List ℕ) → Fed C.reading C.holds self.old input said → OnOk result (Fed C.reading C.holds self.new (input ++ piece.now) (said ++ bytes_text C.reading self.old.progress piece.now)) }
+    {
+        for byte in piece {
+            self.take(*byte, out)?;
+        }
+        Ok(())
     }
 
     /// Whether the last line that is treated has come: nothing that follows counts, so the input need not be read on.
@@ -63,7 +69,7 @@ impl<C: Counter> Watch<C> {
     {
         let Watch { cutter, mut counts } = self;
         if let Some(text) = cutter.last() {
-            counts = counts.treat(text, out)?;
+            counts.treat(text, out)?;
         }
         counts.counter.print_end(out)
     }

@@ -33,8 +33,8 @@ pub trait Counter: Drop {
         ensures { result ≡ reading text.now };
 
     /// One value more.
-    fn take(self, value: Self::Value) -> Self
-        ensures { Takes reading came holds self value result };
+    fn take(&mut self, value: Self::Value)
+        ensures { Takes reading came holds self.old value self.new };
 
     /// Appends what is printed at the end.
     fn print_end(&self, out: &mut String) -> Result<(), AllocError>

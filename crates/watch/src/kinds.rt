@@ -4,8 +4,9 @@ ghost use Rattle.std.specs.Prelude.{◌≡◌, ◌≤◌, length, OnOk, ◌++◌
 ghost use Rattle.std.proofs.Common.{ap};
 ghost use Rattle.sentences.proofs.Decided.{address_decided};
 ghost use Rattle.tally.specs.Slots.{over};
+ghost use Rattle.keeper.specs.Figures.{newly};
 ghost use Rattle.ring.specs.Rings.{window_of};
-ghost use Rattle.watch.specs.Kinds.{as_key, IsAscii, IsRightFor, key_of, kinds_in, kinds_text};
+ghost use Rattle.watch.specs.Kinds.{as_key, IsAscii, IsRightFor, key_of, kinds_in, kinds_text, most_keys};
 ghost use Rattle.watch.specs.Printed.{kind_text};
 
 use crate::counter::Counter;
@@ -16,6 +17,7 @@ use ring::Ring;
 use sentences::{Address, SentenceError, read_address};
 use std::alloc::AllocError;
 use std::marker::Model;
+use std::mem;
 use tally::Row;
 
 const ACCURACY: u32 = 3;
@@ -45,6 +47,14 @@ impl Model for Kinds {
     ghost view = { λ kinds. record { window = kinds.window; rows = kinds.rows } };
 
     ghost invariant = { λ kinds. IsSet (record { window = kinds.window; rows = kinds.rows }) };
+}
+
+fn empty_window() -> Latest<Ring>
+    ensures { result ≡ record { keeper = newly 3 6; goal = most_keys } }
+{
+    let setting = Setting::new(ACCURACY, SPAN).unwrap();
+    let ring = <Ring as Keeper<AddressKey>>::fresh(setting);
+    Latest::new(ring, MOST_KEYS).unwrap()
 }
 
 impl Kinds {
@@ -82,12 +92,10 @@ impl Counter for Kinds {
     ghost decided = { λ text. ap as_key (address_decided text) };
 
     fn new() -> Kinds {
-        let setting = Setting::new(ACCURACY, SPAN).unwrap();
-        let ring = <Ring as Keeper<AddressKey>>::fresh(setting);
         let row = Row { key: NO_KEY, count: 0 };
         Kinds {
             rows: [row; 64],
-            window: Latest::new(ring, MOST_KEYS).unwrap(),
+            window: empty_window(),
         }
     }
 
@@ -97,13 +105,13 @@ impl Counter for Kinds {
     }
 
     // The table is long enough, and 2^30 are more than can come, so no key is refused.
-    fn take(self, key: AddressKey) -> Kinds {
-        let Kinds { mut rows, window } = self;
-        let window = match window.take(&mut rows, &mut [], key) {
+    fn take(&mut self, key: AddressKey) {
+        // A window is moved to take a key. Meanwhile an empty one stands in its place.
+        let window = mem::replace(&mut self.window, empty_window());
+        self.window = match window.take(&mut self.rows, &mut [], key) {
             Ok(window) => window,
             Err(back) => back.value,
         };
-        Kinds { rows, window }
     }
 
     fn print_end(&self, out: &mut String) -> Result<(), AllocError> {

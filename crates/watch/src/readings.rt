@@ -37,10 +37,8 @@ impl Counter for Readings {
     }
 
     // There are no more readings than lines, so it never stays at the highest number.
-    fn take(self, _reading: Reading) -> Readings {
-        Readings {
-            count: self.count.saturating_add(1),
-        }
+    fn take(&mut self, _reading: Reading) {
+        self.count = self.count.saturating_add(1);
     }
 
     fn print_end(&self, out: &mut String) -> Result<(), AllocError> {

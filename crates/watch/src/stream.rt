@@ -45,7 +45,7 @@ pub fn run<C: Counter, R: Read, W: Write>(
         if count == 0 {
             return write_end(watch, &mut out, output);
         }
-        watch = watch.feed(&piece[..count], &mut out)?;
+        watch.feed(&piece[..count], &mut out)?;
         output.write_all(out.as_bytes())?;
         out.clear();
         if watch.is_done() {

@@ -3,6 +3,4 @@ use Rattle.watch.proofs.Pieces.{Come}
 use Rattle.watch.proofs.Watch.feed.Given as goal
 
 abbrev pub invariant-loop-byte : goal.invariant-loop-byte
-invariant-loop-byte g l =
-    Come g.C.Counter.reading g.C.Counter.holds l.fn.self (string_bytes l.initial.out) (take l.byte-index l.piece)
-    (record { progress = record { kept = l.cutter; lines = l.counts.lines }; counter = l.counts.counter }) (string_bytes l.out)
+invariant-loop-byte g l = Come g.C.Counter.reading g.C.Counter.holds l.initial.self (string_bytes l.initial.out) (take l.byte-index l.piece) l.self (string_bytes l.out)
