@@ -64,16 +64,16 @@ module _ {V : Type 0} (reading : List ℕ → Result V SentenceError) where
           text ∙ ap (λ t. t ++ lines_report reading (after.progress.lines + 1) (byte_texts after.progress b)) come.text
           ∙ append_assoc said (bytes_text reading before.progress bs) _
           ∙ ap (λ t. said ++ t)
-              (ap (λ t. bytes_text reading before.progress bs ++ t)
-                  (ap (lines_report reading (after.progress.lines + 1)) (sym (append-nil (byte_texts after.progress b))) ∙ ap (λ p. bytes_text reading p (b ∷ [])) come.place)
-              ∙ sym (text_append before.progress bs (b ∷ [])));
+          (ap (λ t. bytes_text reading before.progress bs ++ t)
+          (ap (lines_report reading (after.progress.lines + 1)) (sym (append-nil (byte_texts after.progress b))) ∙ ap (λ p. bytes_text reading p (b ∷ [])) come.place)
+          ∙ sym (text_append before.progress bs (b ∷ [])));
       counted = λ values h.
           subst (holds next.counter)
           (append_assoc values (bytes_values reading before.progress bs) _
           ∙ ap (λ vs. values ++ vs)
-              (ap (λ vs. bytes_values reading before.progress bs ++ vs)
-                  (ap (values_of reading) (sym (append-nil (byte_texts after.progress b))) ∙ ap (λ p. bytes_values reading p (b ∷ [])) come.place)
-              ∙ sym (values_append before.progress bs (b ∷ []))))
+          (ap (λ vs. bytes_values reading before.progress bs ++ vs)
+          (ap (values_of reading) (sym (append-nil (byte_texts after.progress b))) ∙ ap (λ p. bytes_values reading p (b ∷ [])) come.place)
+          ∙ sym (values_append before.progress bs (b ∷ []))))
           (counted _ (come.counted values h));
     }
 

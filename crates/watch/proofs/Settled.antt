@@ -50,9 +50,8 @@ kinds_fewer n s rows =
     omega (arith, listed_fewer alike (exactly alike keys) (threshold_of n) keys, keys_fewer rows (2 ^ s.span) (s.puts - s.size) s.size)
 
 -- the threshold is an eighth of the size, rounded up
-pub eighth : (n size part threshold : ℕ) → size ≡ n → part ≡ size / 8 + min 1 (size % 8) → threshold ≡ max part 1 → threshold ≡ threshold_of n
-eighth n size part threshold same divided raised =
-    let up : part ≡ (n + 7) / 8 = omega arith in raised ∙ ap (λ m. max m 1) up
+pub rounded_up : (n : ℕ) → max (n / 8 + min 1 (n % 8)) 1 ≡ threshold_of n
+rounded_up n = let up : n / 8 + min 1 (n % 8) ≡ (n + 7) / 8 = omega arith in ap (λ m. max m 1) up
 
 module _ (kinds : Kept) (set : IsSet kinds) where
   -- the table is long enough, and 2^30 puts are more than a million

@@ -6,7 +6,7 @@ ghost use Rattle.sentences.proofs.Decided.{address_decided};
 ghost use Rattle.tally.specs.Slots.{over};
 ghost use Rattle.keeper.specs.Figures.{newly};
 ghost use Rattle.ring.specs.Rings.{window_of};
-ghost use Rattle.watch.specs.Kinds.{as_key, IsAscii, IsRightFor, key_of, kinds_in, kinds_text, most_keys};
+ghost use Rattle.watch.specs.Kinds.{as_key, IsAscii, IsRightFor, key_of, kinds_in, kinds_text, most_keys, threshold_of};
 ghost use Rattle.watch.specs.Printed.{kind_text};
 
 use crate::counter::Counter;
@@ -49,6 +49,14 @@ impl Model for Kinds {
     ghost invariant = { λ kinds. IsSet (record { window = kinds.window; rows = kinds.rows }) };
 }
 
+// An eighth of so many keys, rounded up, but at least 1.
+#[tactic(auto, using(crate::proofs::Settled::rounded_up))]
+fn eighth(keys: u32) -> u32
+    ensures { result ≡ threshold_of keys }
+{
+    keys.div_ceil(8).max(1)
+}
+
 fn empty_window() -> Latest<Ring>
     ensures { result ≡ record { keeper = newly 3 6; goal = most_keys } }
 {
@@ -64,7 +72,7 @@ impl Kinds {
         ensures named { result ≡ length (kinds_in self.now.window.keeper.size (window_of self.now.window.keeper self.now.rows)) }
         ensures fits { result ≤ 63 }
     {
-        let threshold = self.window.size().div_ceil(8).max(1);
+        let threshold = eighth(self.window.size());
         self.window.list(&self.rows, &[], threshold, list).unwrap()
     }
 }
@@ -75,7 +83,11 @@ fn print_kind(entry: &Entry<AddressKey>, out: &mut String) -> Result<(), AllocEr
 {
     let [_, _, first, second, third] = entry.key.bytes;
     let (first, second, third) = (char::from(first), char::from(second), char::from(third));
-    writeln!(out, "kind {first}{second}{third} {} {}", entry.floor, entry.ceiling)
+    writeln!(
+        out,
+        "kind {first}{second}{third} {} {}",
+        entry.floor, entry.ceiling
+    )
 }
 
 impl Counter for Kinds {
@@ -92,7 +104,10 @@ impl Counter for Kinds {
     ghost decided = { λ text. ap as_key (address_decided text) };
 
     fn new() -> Kinds {
-        let row = Row { key: NO_KEY, count: 0 };
+        let row = Row {
+            key: NO_KEY,
+            count: 0,
+        };
         Kinds {
             rows: [row; 64],
             window: empty_window(),

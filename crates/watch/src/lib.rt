@@ -21,7 +21,6 @@ pub use kinds::Kinds;
 pub use latest::Latest;
 pub use readings::Readings;
 pub use stream::run;
-
 use treat::Counts;
 
 /// How many lines of an input are treated at most.
@@ -48,3 +47,6 @@ impl<C: Counter> Model for Watch<C> {
 
     ghost view = { λ watch. record { progress = record { kept = watch.cutter; lines = watch.counts.lines }; counter = watch.counts.counter } };
 }
+
+#[cfg(test)]
+mod tests;

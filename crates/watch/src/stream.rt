@@ -1,6 +1,7 @@
 //! From a reader to a writer.
 
 ghost use Rattle.std.specs.Prelude.{◌≡◌, List, ℕ, [], ◌++◌, Some, OnOk, string_bytes};
+ghost use Rattle.std.specs.Io.KnownBytes.{Appends};
 ghost use Rattle.watch.specs.Progress.{Fed};
 ghost use Rattle.watch.specs.Report.{report};
 
@@ -13,6 +14,16 @@ use std::io::{ErrorKind, Read, Write};
 /// How many bytes are read at once.
 const PIECE: usize = 65536;
 
+// Writes the text, and empties it.
+fn write_text<W: Write>(text: &mut String, output: &mut W) -> io::Result<()>
+    ensures written { OnOk result (Appends (W.contents output.old) (W.contents output.new) (string_bytes text.old)) }
+    ensures empty { OnOk result (string_bytes text.new ≡ []) }
+{
+    output.write_all(text.as_bytes())?;
+    text.clear();
+    Ok(())
+}
+
 // Writes what is printed where the input ends.
 fn write_end<C: Counter, W: Write>(
     watch: Watch<C>,
@@ -23,7 +34,7 @@ fn write_end<C: Counter, W: Write>(
         → OnOk result (W.contents output.new ≡ Some (before ++ report C.reading C.ending input)) }
 {
     watch.finish(out)?;
-    output.write_all(out.as_bytes())
+    write_text(out, output)
 }
 
 /// Reads the input to its end, or to the last line that is treated, and writes what is printed about it: once for each piece
@@ -46,8 +57,7 @@ pub fn run<C: Counter, R: Read, W: Write>(
             return write_end(watch, &mut out, output);
         }
         watch.feed(&piece[..count], &mut out)?;
-        output.write_all(out.as_bytes())?;
-        out.clear();
+        write_text(&mut out, output)?;
         if watch.is_done() {
             return write_end(watch, &mut out, output);
         }

@@ -1,4 +1,4 @@
-use Rattle.std.proofs.Common.{◌≡◌, ◌<◌, ◌++◌, length, take, Some, sym, ap, ◌∙◌, subst, arith}
+use Rattle.std.proofs.Common.{◌≡◌, ◌<◌, ◌++◌, length, string_bytes, take, Some, sym, ap, ◌∙◌, subst, arith}
 use Rattle.std.specs.Result.{OnOk}
 use Rattle.std.specs.Io.KnownBytes.{Consumes}
 use Rattle.std.proofs.lemmas.Bool.{eqb-true}
@@ -10,15 +10,15 @@ use Rattle.watch.proofs.stream.run.Goals as goal
 
 pub loop-preserved : goal.loop-preserved
 loop-preserved g c = record {
-  empty = c.clear.ensures.bytes;
+  empty = c.in_ok-write_text.ensures.empty;
   long = c.loop.invariant.long;
   beside = λ bytes before known held.
-      beside_piece g.C.Counter.reading g.C.Counter.holds bytes before _ _ c.loop.watch (c.loop.invariant.beside bytes before known held) (g.R.Read.remaining c.read.new.self) (g.W.Write.contents c.write_all.new.self) c.feed.new.self
-      (take c.in_ok-count.count c.read.new.buf) (take c.in_ok-count.count c.deref.result.now) c.as_bytes.result.now
+      beside_piece g.C.Counter.reading g.C.Counter.holds bytes before _ _ c.loop.watch (c.loop.invariant.beside bytes before known held) (g.R.Read.remaining c.read.new.self) (g.W.Write.contents c.write_text.new.output) c.feed.new.self
+      (take c.in_ok-count.count c.read.new.buf) (take c.in_ok-count.count c.deref.result.now) (string_bytes c.feed.new.out)
       c.in_ok-count.ensures.bytes.0
       (ap (take c.in_ok-count.count) (whole_buffer _ c.deref.result.now c.read.new.buf _ c.deref.ensures.value (c.read.auto.buf ∙ c.deref_mut.ensures.len)))
-      c.in_ok-write_all.ensures.bytes
-      (c.as_bytes.ensures.value ∙ c.in_ok-feed.ensures.text ∙ ap (λ t. t ++ bytes_text g.C.Counter.reading c.loop.watch.progress (take c.in_ok-count.count c.deref.result.now)) c.loop.invariant.empty)
+      c.in_ok-write_text.ensures.written
+      (c.in_ok-feed.ensures.text ∙ ap (λ t. t ++ bytes_text g.C.Counter.reading c.loop.watch.progress (take c.in_ok-count.count c.deref.result.now)) c.loop.invariant.empty)
       c.in_ok-feed.ensures.fed;
 }
 
@@ -35,15 +35,15 @@ returns-then-count-eq0 g c bytes before known held =
 pub returns-then-is_done : goal.returns-then-is_done
 returns-then-is_done g c bytes before known held =
     let b =
-      beside_piece g.C.Counter.reading g.C.Counter.holds bytes before _ _ c.loop.watch (c.loop.invariant.beside bytes before known held) (g.R.Read.remaining c.read.new.self) (g.W.Write.contents c.write_all.new.self) c.feed.new.self
-      (take c.in_ok-count.count c.read.new.buf) (take c.in_ok-count.count c.deref.result.now) c.as_bytes.result.now
-      c.in_ok-count.ensures.bytes.0
-      (ap (take c.in_ok-count.count) (whole_buffer _ c.deref.result.now c.read.new.buf _ c.deref.ensures.value (c.read.auto.buf ∙ c.deref_mut.ensures.len)))
-      c.in_ok-write_all.ensures.bytes
-      (c.as_bytes.ensures.value ∙ c.in_ok-feed.ensures.text ∙ ap (λ t. t ++ bytes_text g.C.Counter.reading c.loop.watch.progress (take c.in_ok-count.count c.deref.result.now)) c.loop.invariant.empty)
-      c.in_ok-feed.ensures.fed in
+    beside_piece g.C.Counter.reading g.C.Counter.holds bytes before _ _ c.loop.watch (c.loop.invariant.beside bytes before known held) (g.R.Read.remaining c.read.new.self) (g.W.Write.contents c.write_text.new.output) c.feed.new.self
+    (take c.in_ok-count.count c.read.new.buf) (take c.in_ok-count.count c.deref.result.now) (string_bytes c.feed.new.out)
+    c.in_ok-count.ensures.bytes.0
+    (ap (take c.in_ok-count.count) (whole_buffer _ c.deref.result.now c.read.new.buf _ c.deref.ensures.value (c.read.auto.buf ∙ c.deref_mut.ensures.len)))
+    c.in_ok-write_text.ensures.written
+    (c.in_ok-feed.ensures.text ∙ ap (λ t. t ++ bytes_text g.C.Counter.reading c.loop.watch.progress (take c.in_ok-count.count c.deref.result.now)) c.loop.invariant.empty)
+    c.in_ok-feed.ensures.fed in
     let done : c.feed.new.self.progress.lines ≡ most_lines = eqb-true _ _ (sym c.is_done.ensures.value ∙ c.if-is_done.true) in
     let rest = fed_rest g.C.Counter.reading g.met.C.Counter.decided g.C.Counter.ending g.C.Counter.holds c.feed.new.self b.came b.said b.fed b.rest done in
     subst (λ text. OnOk c.write_end-then-is_done.result (g.W.Write.contents c.write_end-then-is_done.new.output ≡ Some (before ++ text)))
     (sym (ap (report g.C.Counter.reading g.C.Counter.ending) b.whole ∙ rest))
-    (c.write_end-then-is_done.ensures b.came b.said before b.fed c.clear.ensures.bytes b.is_written)
+    (c.write_end-then-is_done.ensures b.came b.said before b.fed c.in_ok-write_text.ensures.empty b.is_written)

@@ -10,6 +10,6 @@ returns c =
     let same = c.replace-window.ensures.value in
     rw (sym c.self.view_is)
     (elim c.match-take.branch [
-      in-Ok w ↦ rw w.self-is (takes_one kinds c.self.invariant c.args.key (record { window = w.in-Ok.window; rows = c.take.new.rows }) c.take.new.heads (rw same at w.in-Ok.ensures))
-    | in-Err w ↦ takes_none kinds c.self.invariant c.args.key _ w.in-Err.back c.take.new.rows c.take.new.heads (rw same at w.in-Err.ensures)
+      | in-Ok w ↦ rw w.self-is (takes_one kinds c.self.invariant c.args.key (record { window = w.in-Ok.window; rows = c.take.new.rows }) c.take.new.heads (rw same at w.in-Ok.ensures))
+      | in-Err w ↦ takes_none kinds c.self.invariant c.args.key _ w.in-Err.back c.take.new.rows c.take.new.heads (rw same at w.in-Err.ensures)
     ])
