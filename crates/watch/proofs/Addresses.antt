@@ -1,5 +1,5 @@
 -- The addresses that are read of sentences are ASCII, and so are those that are listed. Assumes nothing.
-use Rattle.std.proofs.Common.{◌≡◌, ℕ, ◌-◌, ◌<◌, Bool, true, leb, List, length, Ok, Err, Result, refl, ap, arith}
+use Rattle.std.proofs.Common.{◌≡◌, ℕ, ◌-◌, ◌<◌, Bool, true, leb, List, length, Ok, Err, Result, refl, arith}
 use Rattle.std.specs.List.{All, flat_map}
 use Rattle.std.proofs.ByRecursion.{All-weaker}
 use Rattle.std.proofs.lemmas.Bool.Decides.{nat_tests}

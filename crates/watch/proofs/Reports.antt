@@ -7,10 +7,10 @@ use Rattle.std.proofs.lemmas.List.{append-nil, take_all, take-take}
 use Rattle.std.proofs.lemmas.List.Elements.{filter_map-append}
 use Rattle.std.proofs.lemmas.Bool.{cases_Bool, cases_lt, lt-ltb, le-ltb}
 use Rattle.lines.specs.Kept.{keep_byte, line_of, last_of}
-use Rattle.lines.specs.Lines.{without_cr, last_line, lines_from, lines_of}
-use Rattle.lines.proofs.Keeps.{keep_byte_take, line_of_take, last_of_take}
+use Rattle.lines.specs.Lines.{without_cr, last_line, lines_from}
+use Rattle.lines.proofs.Keeps.{keep_byte_take, line_of_take}
 use Rattle.sentences.specs.declared.error.SentenceError.{SentenceError}
-use Rattle.watch.specs.Progress.{Progress, Watched, Fed, start, lines_after, treated, take_byte, byte_texts, take_bytes, texts_ended, last_texts, bytes_text, bytes_values, last_text}
+use Rattle.watch.specs.Progress.{Progress, Watched, Fed, start, lines_after, treated, take_byte, byte_texts, take_bytes, texts_ended, last_texts, bytes_values, last_text}
 use Rattle.watch.specs.Report.{most_lines, texts_of, outcome_text, lines_report, values_of, report}
 use Rattle.watch.proofs.Pieces.{lines_come, report_append}
 

@@ -1,5 +1,5 @@
 -- A ring under a window of 63 refuses none of the calls that linewatch makes. Assumes nothing.
-use Rattle.std.proofs.Common.{◌≡◌, ℕ, ◌+◌, ◌-◌, ◌*◌, ◌/◌, ◌%◌, ◌^◌, ◌<◌, ◌≤◌, Bool, not, leb, zero, suc, false, List, [], ◌∷◌, ◌++◌, map, length, take, drop, filter, min, max, Ok, Result, sym, refl, ap, ◌∙◌, length-append, arith}
+use Rattle.std.proofs.Common.{◌≡◌, ℕ, ◌+◌, ◌-◌, ◌/◌, ◌%◌, ◌^◌, ◌<◌, ◌≤◌, Bool, not, leb, zero, suc, false, List, [], ◌∷◌, length, take, drop, filter, min, max, Ok, Result, sym, refl, ap, ◌∙◌, length-append, arith}
 use Rattle.std.specs.Prelude.{nat_lt}
 use Rattle.std.proofs.lemmas.Bool.{le-ltb}
 use Rattle.std.proofs.lemmas.Bool.Decides.{nat_tests}

@@ -1,11 +1,10 @@
 -- What is written about an input that is read piece by piece.
-use Rattle.std.proofs.Common.{◌≡◌, ℕ, List, [], ◌∷◌, ◌++◌, length, take, Some, None, Option, Result, sym, refl, ap, ◌∙◌, subst, append_assoc, arith}
+use Rattle.std.proofs.Common.{◌≡◌, ℕ, List, [], ◌++◌, length, take, Some, None, Option, Result, sym, refl, ap, ◌∙◌, subst, append_assoc}
 use Rattle.std.proofs.Math.Seq.{take-append_seam}
 use Rattle.std.proofs.lemmas.List.{append-nil}
 use Rattle.std.specs.Io.KnownBytes.{Appends, Consumes, IsAtEnd}
 use Rattle.sentences.specs.declared.error.SentenceError.{SentenceError}
 use Rattle.watch.specs.Progress.{Watched, Fed, bytes_text}
-use Rattle.watch.specs.Report.{most_lines, report}
 
 consumed : (rest : List ℕ) (left : Option (List ℕ)) (piece : List ℕ) → Consumes (Some rest) left piece → (more : List ℕ) × (left ≡ Some more) × (rest ≡ piece ++ more)
 consumed rest None piece h = absurd h

@@ -25,7 +25,7 @@ const ACCURACY: u32 = 3;
 const SPAN: u32 = 6;
 
 // How many addresses the window has, once so many have come.
-const MOST_KEYS: u32 = 63;
+const MOST_KEYS: usize = 63;
 
 // As many rows as a ring of this span uses.
 const ROWS: usize = 64;
@@ -35,7 +35,7 @@ const NO_KEY: AddressKey = AddressKey { bytes: [0; 5] };
 /// Which kinds of sentence are many among the latest 63 addresses.
 #[derive(Drop)]
 pub struct Kinds {
-    rows: [Row<AddressKey>; 64],
+    rows: [Row<AddressKey>; ROWS],
     window: Latest<Ring>,
 }
 
@@ -62,12 +62,12 @@ fn empty_window() -> Latest<Ring>
 {
     let setting = Setting::new(ACCURACY, SPAN).unwrap();
     let ring = <Ring as Keeper<AddressKey>>::fresh(setting);
-    Latest::new(ring, MOST_KEYS).unwrap()
+    Latest::new(ring, MOST_KEYS as u32).unwrap()
 }
 
 impl Kinds {
     // Lists the kinds over the front of `list`, which has a place for each key of the window, and says how many they are.
-    fn list(&self, list: &mut [Entry<AddressKey>; 63]) -> usize
+    fn list(&self, list: &mut [Entry<AddressKey>; MOST_KEYS]) -> usize
         ensures written { list.new ≡ over (kinds_in self.now.window.keeper.size (window_of self.now.window.keeper self.now.rows)) list.old }
         ensures named { result ≡ length (kinds_in self.now.window.keeper.size (window_of self.now.window.keeper self.now.rows)) }
         ensures fits { result ≤ 63 }
@@ -109,7 +109,7 @@ impl Counter for Kinds {
             count: 0,
         };
         Kinds {
-            rows: [row; 64],
+            rows: [row; ROWS],
             window: empty_window(),
         }
     }
@@ -134,7 +134,7 @@ impl Counter for Kinds {
             key: NO_KEY,
             floor: 0,
             ceiling: 0,
-        }; 63];
+        }; MOST_KEYS];
         let named = self.list(&mut list);
         for entry in &list[..named] {
             print_kind(entry, out)?;

@@ -8,6 +8,7 @@ ghost use Rattle.watch.specs.Printed.{readings_text};
 use crate::counter::Counter;
 use sentences::{Reading, SentenceError, read_depth};
 use std::alloc::AllocError;
+use std::marker::Model;
 
 /// How many lines are depth readings.
 #[derive(Drop)]
@@ -15,14 +16,22 @@ pub struct Readings {
     count: u32,
 }
 
+impl Model for Readings {
+    ghost use Rattle.std.specs.Prelude.{ℕ};
+
+    ghost Value = { ℕ };
+
+    ghost view = { λ readings. readings.count };
+}
+
 impl Counter for Readings {
     type Value = Reading;
 
     ghost reading = { reading_of };
 
-    ghost came = { λ readings. readings.count };
+    ghost came = { λ count. count };
 
-    ghost holds = { λ readings values. readings.count ≡ length values };
+    ghost holds = { λ count values. count ≡ length values };
 
     ghost ending = { λ values. readings_text (length values) };
 

@@ -52,15 +52,15 @@ pub fn run<C: Counter, R: Read, W: Write>(
     let mut watch = Watch::<C>::new();
     // The pieces are counted, since every function has to end.
     for _ in 0..u64::MAX {
+        if watch.is_done() {
+            return write_end(watch, &mut out, output);
+        }
         let count = input.read(&mut piece)?;
         if count == 0 {
             return write_end(watch, &mut out, output);
         }
         watch.feed(&piece[..count], &mut out)?;
         write_text(&mut out, output)?;
-        if watch.is_done() {
-            return write_end(watch, &mut out, output);
-        }
     }
     Err(io::Error::new(
         ErrorKind::TimedOut,

@@ -1,5 +1,4 @@
-use Rattle.std.proofs.Common.{◌≡◌, Ok, Err, sym, subst}
-use Rattle.watch.specs.States.{Moved}
+use Rattle.std.proofs.Common.{sym}
 use Rattle.watch.proofs.Moves.{moved_ok, moved_err}
 use Rattle.watch.proofs.latest.Latest.take.Goals as goal
 
