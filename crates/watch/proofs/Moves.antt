@@ -20,17 +20,17 @@ use Rattle.watch.specs.declared.latest.State.TheVariants.{Filling, Sliding}
 use Rattle.watch.specs.Latest.{latest, earlier, moved_on, HoldsLatest, Accepted, Rejected}
 use Rattle.watch.specs.States.{fixed_of, IsSettled, Moved}
 
--- a list is two lists joined, at the place where the first ends
+-- A list is two lists joined, at the place where the first ends.
 seam : {K : Type 0} (m : ℕ) (xs front back : List K) → front ++ back ≡ xs → m ≡ length front → (take m xs ≡ front) × (drop m xs ≡ back)
 seam m xs front back whole here =
     rw (sym whole) (rw here (take-append_seam front back, drop-append_seam front back))
 
--- a window that has not its size yet is refused as one that slides
+-- A window that has not its size yet is refused as one that slides.
 fills_as : (need lent : Lengths) (f : Figures) (goal : ℕ) → f.size < goal → fill_answer need lent f goal ≡ slide_answer need lent f
 fills_as need lent f goal room = grind (arith, nat_tests)
 
 module _ {P K : Type 0} (figures : P → Figures) (holds : P → List (Row K) → List Head → List K → List K → Type 0) (need : ℕ → ℕ → Lengths) (w : Fixed P) (rows rows' : List (Row K)) (heads heads' : List Head) (key : K) (w' : Fixed P) where
-  -- true to a past and a window that are all the keys
+  -- True to a past and a window that are all the keys.
   resplit : (keys past window : List K) → past ++ window ≡ keys → length keys - w'.goal ≡ length past → TrueTo figures holds w'.keeper rows' heads' past window → HoldsLatest figures holds w' rows' heads' keys
   resplit keys past window whole here t =
       let split = seam (length keys - w'.goal) keys past window whole here in
@@ -59,7 +59,7 @@ module _ {P K : Type 0} (figures : P → Figures) (holds : P → List (Row K) �
           (omega (arith, s.goal, t.size, length_push keys key, length_push past x, length-drop (length keys - w.goal) keys, length-take (length keys - w.goal) keys))
           (s.takes refl past xs x (subst (TrueTo figures holds w.keeper rows heads past) e t))
 
--- a window that still fills has one key more, and one that slides as many as it had
+-- A window that still fills has one key more, and one that slides as many as it had.
 grows : (f : Figures) (goal : ℕ) → f.size < goal → grown f ≡ moved_on goal f
 grows f goal room = ap (λ n. record { accuracy = f.accuracy; span = f.span; puts = f.puts + 1; size = n }) (sym (min-eq_left (omega arith)))
 

@@ -28,7 +28,7 @@ use Rattle.watch.specs.Report.{most_lines}
 filter_fewer : {X : Type 0} (test : X → Bool) (xs : List X) → length (filter test xs) ≤ length xs
 filter_fewer test xs = omega (arith, length-filter test xs, count_by-le-length test xs)
 
--- a list names no more keys than there are
+-- A list names no more keys than there are.
 firsts_fewer : {K : Type 0} (alike : K → K → Bool) (xs : List K) → length (firsts alike xs) ≤ length xs
 firsts_fewer alike [] = omega arith
 firsts_fewer alike (x ∷ xs) = omega (arith, filter_fewer (λ other. not (alike x other)) (firsts alike xs), firsts_fewer alike xs)
@@ -37,7 +37,7 @@ listed_fewer : {K : Type 0} (alike : K → K → Bool) (bracket : K → ℕ × �
 listed_fewer {K} alike bracket threshold xs =
     omega (arith, length-map {A = K} (filter (λ k. leb threshold (bracket k).1) (firsts alike xs)) (λ k. entry_of k (bracket k)), filter_fewer (λ k. leb threshold (bracket k).1) (firsts alike xs), firsts_fewer alike xs)
 
--- a window in rows has no more keys than its size
+-- A window in rows has no more keys than its size.
 keys_fewer : {K : Type 0} (rows : List (Row K)) (rounds from n : ℕ) → length (keys_from rows rounds from n) ≤ n
 keys_fewer rows rounds from zero = omega arith
 keys_fewer {K} rows rounds from (suc n) =
@@ -49,15 +49,16 @@ kinds_fewer n s rows =
     let keys = window_of s rows in
     omega (arith, listed_fewer alike (exactly alike keys) (threshold_of n) keys, keys_fewer rows (2 ^ s.span) (s.puts - s.size) s.size)
 
--- the threshold is an eighth of the size, rounded up
+-- The threshold is an eighth of the size, rounded up.
 pub rounded_up : (n : ℕ) → max (n / 8 + min 1 (n % 8)) 1 ≡ threshold_of n
 rounded_up n = let up : n / 8 + min 1 (n % 8) ≡ (n + 7) / 8 = omega arith in ap (λ m. max m 1) up
 
 module _ (kinds : Kept) (set : IsSet kinds) where
-  -- the table is long enough, and 2^30 puts are more than a million
+  -- The table is long enough.
   enough : short (needed (λ s. s) need_of kinds.window.keeper) (lengths kinds.rows []) ≡ false
   enough = rw set.span (rw set.rows refl)
 
+  -- And 2^30 puts are more than a million, so no key is refused.
   pub slides : kinds.window.keeper.puts < most_lines → slide_answer (needed (λ s. s) need_of kinds.window.keeper) (lengths kinds.rows []) kinds.window.keeper ≡ Ok tt
   slides few = rw enough (grind (arith, nat_tests))
 
@@ -80,10 +81,11 @@ module _ (kinds : Kept) (set : IsSet kinds) where
         };
   }
 
+  -- The threshold is high enough.
   fit : unfit kinds.window.keeper (threshold_of kinds.window.keeper.size) ≡ false
   fit = rw set.accuracy (grind (arith, nat_tests))
 
-  -- a list is refused for nothing, if it has a place for each key
+  -- A list is refused for nothing, if it has a place for each key.
   pub lists : (r : Result ℕ Refusal) (threshold room : ℕ) → threshold ≡ threshold_of kinds.window.keeper.size → room ≡ most_keys
       → r ≡ list_answer (needed (λ s. s) need_of kinds.window.keeper) (lengths kinds.rows []) kinds.window.keeper threshold room (length (listing_of (λ x y. same_kind x.bytes y.bytes) (window_of kinds.window.keeper kinds.rows) threshold))
       → r ≡ Ok (length (kinds_in kinds.window.keeper.size (window_of kinds.window.keeper kinds.rows)))

@@ -17,12 +17,12 @@ appended text (Some all) piece h = ap Some h
 ended : (more : List ℕ) (left : Option (List ℕ)) → left ≡ Some more → IsAtEnd left → more ≡ []
 ended more left e h = subst IsAtEnd e h
 
--- a buffer that was read into whole
+-- A buffer that was read into whole.
 pub whole_buffer : (size : ℕ) (piece buffer rest : List ℕ) → piece ≡ take size (buffer ++ rest) → length buffer ≡ size → piece ≡ buffer
 whole_buffer size piece buffer rest is long = is ∙ ap (λ n. take n (buffer ++ rest)) (sym long) ∙ take-append_seam buffer rest
 
 module _ {V C : Type 0} (reading : List ℕ → Result V SentenceError) (holds : C → List V → Type 0) where
-  -- a watch beside the bytes that are left of an input, and the text that is written about the others
+  -- A watch beside the bytes that are left of an input, and the text that is written about the others.
   pub record Beside (bytes before : List ℕ) (left written : Option (List ℕ)) (watch : Watched C) : Type 0 where
     pub came : List ℕ
     pub rest : List ℕ
@@ -33,7 +33,7 @@ module _ {V C : Type 0} (reading : List ℕ → Result V SentenceError) (holds :
     pub fed : Fed reading holds watch came said
 
   module _ (bytes before : List ℕ) (left written : Option (List ℕ)) (watch : Watched C) (b : Beside bytes before left written watch) (left' : Option (List ℕ)) where
-    -- a piece was read and fed, and what is printed of it is written
+    -- A piece was read and fed, and what is printed of it is written.
     pub beside_piece : (written' : Option (List ℕ)) (watch' : Watched C) (piece came text : List ℕ)
         → Consumes left left' piece → came ≡ piece
         → Appends written written' text → text ≡ bytes_text reading watch.progress came
@@ -53,7 +53,7 @@ module _ {V C : Type 0} (reading : List ℕ → Result V SentenceError) (holds :
           fed = fed b.came b.said b.fed;
         }
 
-    -- where a read gives no byte, all have come
+    -- Where a read gives no byte, all have come.
     pub all_came : Consumes left left' [] → IsAtEnd left' → bytes ≡ b.came
     all_came takes end =
         let next = consumed b.rest left' [] (subst (λ l. Consumes l left' []) b.is_left takes) in

@@ -1,4 +1,4 @@
--- What a counter promises of one value more.
+-- What a counter promises of one value more. Assumes nothing.
 use Rattle.std.specs.Prelude.{◌≡◌, ℕ, ◌+◌, ◌<◌, List, [], ◌∷◌, ◌++◌, Ok, Result}
 use Rattle.sentences.specs.declared.error.SentenceError.{SentenceError}
 use Rattle.watch.specs.Report.{most_lines}

@@ -14,7 +14,7 @@ use Rattle.windows.specs.Fixed.{Fixed}
 use Rattle.watch.specs.Latest.{latest, HoldsLatest}
 use Rattle.watch.specs.Printed.{kind_text}
 
--- the address of a sentence as it is counted
+-- The address of a sentence as it is counted.
 abbrev pub as_key : Result Address SentenceError → Result AddressKey SentenceError
 as_key (Ok address) = Ok (record { bytes = address.bytes })
 as_key (Err error) = Err error
@@ -22,28 +22,28 @@ as_key (Err error) = Err error
 abbrev pub key_of : List ℕ → Result AddressKey SentenceError
 key_of text = as_key (address_of text)
 
--- how many keys the window has at most
+-- How many keys the window has at most.
 abbrev pub most_keys : ℕ
 most_keys = 63
 
--- what counts an eighth of a window of n keys is listed, rounded up, and at least 1
+-- What counts an eighth of a window of n keys is listed, rounded up, and at least 1.
 abbrev pub threshold_of : ℕ → ℕ
 threshold_of n = max ((n + 7) / 8) 1
 
--- the kinds that are listed of a window of n keys
+-- The kinds that are listed of a window of n keys.
 abbrev pub kinds_in : ℕ → List AddressKey → List (Entry AddressKey)
 kinds_in n window = listing_of (λ x y. same_kind x.bytes y.bytes) window (threshold_of n)
 
--- all that is printed at the end, about these addresses
+-- All that is printed at the end, about these addresses.
 abbrev pub kinds_text : List AddressKey → List ℕ
 kinds_text keys = let window = latest most_keys keys in flat_map kind_text (kinds_in (length window) window)
 
--- a counter of kinds: its window, and the rows in which that lies
+-- A counter of kinds: its window, and the rows in which that lies.
 pub record Kept : Type 0 where
   pub window : Fixed Figures
   pub rows : List (Row AddressKey)
 
--- the window is of accuracy 3 and span 6, and of the right size, and so are the rows
+-- The window is of accuracy 3 and span 6, and of the right size, and so are the rows.
 pub record IsSet (kinds : Kept) : Type 0 where
   pub accuracy : kinds.window.keeper.accuracy ≡ 3
   pub span : kinds.window.keeper.span ≡ 6
@@ -51,11 +51,11 @@ pub record IsSet (kinds : Kept) : Type 0 where
   pub within : kinds.window.keeper.size ≤ most_keys
   pub rows : length kinds.rows ≡ 64
 
--- a key of ASCII bytes
+-- A key of ASCII bytes.
 abbrev pub IsAscii : AddressKey → Type 0
 IsAscii key = AllByRecursion (λ b. b < 128) key.bytes
 
--- a counter is right for keys if its window holds the latest of them, and all can be printed
+-- A counter is right for keys if its window holds the latest of them, and all can be printed.
 pub record IsRightFor (kinds : Kept) (keys : List AddressKey) : Type 0 where
   pub goal : kinds.window.goal ≡ most_keys
   pub holds : HoldsLatest (λ s. s) HoldsWindow kinds.window kinds.rows [] keys

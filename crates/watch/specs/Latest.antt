@@ -12,24 +12,24 @@ use Rattle.windows.specs.declared.refusal.WindowRefusal.TheVariants.{Keeper}
 use Rattle.windows.specs.Fixed.{Fixed}
 use Rattle.windows.specs.Refusals.{slide_answer}
 
--- the latest of some keys, n of them if there are so many, and the keys before them
+-- The latest of some keys, n of them if there are so many, and the keys before them.
 abbrev pub latest : {K : Type 0} → ℕ → List K → List K
 latest n keys = drop (length keys - n) keys
 
 abbrev pub earlier : {K : Type 0} → ℕ → List K → List K
 earlier n keys = take (length keys - n) keys
 
--- the figures once one key more has come to a window of this size
+-- The figures once one key more has come to a window of this size.
 abbrev pub moved_on : ℕ → Figures → Figures
 moved_on goal f = record { accuracy = f.accuracy; span = f.span; puts = f.puts + 1; size = min (f.size + 1) goal }
 
 module _ {P K : Type 0} (figures : P → Figures) (holds : P → List (Row K) → List Head → List K → List K → Type 0) where
-  -- of all the keys that came, keeper and tables are true to the latest
+  -- Of all the keys that came, keeper and tables are true to the latest.
   abbrev pub HoldsLatest : Fixed P → List (Row K) → List Head → List K → Type 0
   HoldsLatest w rows heads keys = TrueTo figures holds w.keeper rows heads (earlier w.goal keys) (latest w.goal keys)
 
   module _ (need : ℕ → ℕ → Lengths) where
-    -- a key that was taken
+    -- A key that was taken.
     pub record Accepted (w : Fixed P) (rows : List (Row K)) (heads : List Head) (key : K) (w' : Fixed P) (rows' : List (Row K)) (heads' : List Head) : Type 0 where
       pub answer : slide_answer (needed figures need w.keeper) (lengths rows heads) (figures w.keeper) ≡ Ok tt
       pub tells : figures w'.keeper ≡ moved_on w.goal (figures w.keeper)
@@ -38,7 +38,7 @@ module _ {P K : Type 0} (figures : P → Figures) (holds : P → List (Row K) �
       pub rows_rest : drop (needed figures need w.keeper).rows rows' ≡ drop (needed figures need w.keeper).rows rows
       pub heads_rest : drop (needed figures need w.keeper).heads heads' ≡ drop (needed figures need w.keeper).heads heads
 
-    -- a key that was refused: nothing changed, and the window is handed back
+    -- A key that was refused: nothing changed, and the window is handed back.
     pub record Rejected (w : Fixed P) (rows : List (Row K)) (heads : List Head) (back : Returned (Fixed P)) (rows' : List (Row K)) (heads' : List Head) : Type 0 where
       pub reason : Refusal
       pub answer : slide_answer (needed figures need w.keeper) (lengths rows heads) (figures w.keeper) ≡ Err reason
@@ -46,7 +46,7 @@ module _ {P K : Type 0} (figures : P → Figures) (holds : P → List (Row K) �
       pub rows_kept : rows' ≡ rows
       pub heads_kept : heads' ≡ heads
 
-    -- one key more
+    -- One key more.
     abbrev pub Taken : Fixed P → List (Row K) → List Head → K → Result (Fixed P) (Returned (Fixed P)) → List (Row K) → List Head → Type 0
     Taken w rows heads key (Ok w') rows' heads' = Accepted w rows heads key w' rows' heads'
     Taken w rows heads key (Err back) rows' heads' = Rejected w rows heads back rows' heads'

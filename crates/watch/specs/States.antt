@@ -10,7 +10,7 @@ use Rattle.windows.specs.Windows.{Filled, Slid}
 use Rattle.watch.specs.declared.latest.State.{State}
 use Rattle.watch.specs.declared.latest.State.TheVariants.{Filling, Sliding}
 
--- its fixed window, in either state
+-- Its fixed window, in either state.
 abbrev pub fixed_of : {P : Type 0} → State P → Fixed P
 fixed_of (Filling w) = w
 fixed_of (Sliding w) = w
@@ -20,14 +20,14 @@ slides (Filling w) = false
 slides (Sliding w) = true
 
 module _ {P : Type 0} (figures : P → Figures) where
-  -- it slides as soon as it has its size, which is 1 or more
+  -- It slides as soon as it has its size, which is 1 or more.
   pub record IsSettled (s : State P) : Type 0 where
     pub some : 1 ≤ (fixed_of s).goal
     pub fills : slides s ≡ false → (figures (fixed_of s).keeper).size < (fixed_of s).goal
     pub full : slides s ≡ true → (figures (fixed_of s).keeper).size ≡ (fixed_of s).goal
 
   module _ {K : Type 0} (holds : P → List (Row K) → List Head → List K → List K → Type 0) (need : ℕ → ℕ → Lengths) where
-    -- a put or a slide, by the state
+    -- A put or a slide, by the state.
     abbrev pub Moved : State P → List (Row K) → List Head → K → Result (Unit {0}) Refusal → State P → List (Row K) → List Head → Type 0
     Moved (Filling w) rows heads key r (Filling w') rows' heads' = Filled figures holds need w rows heads key r w' rows' heads'
     Moved (Sliding w) rows heads key r (Sliding w') rows' heads' = Slid figures holds need w rows heads key r w' rows' heads'

@@ -70,7 +70,7 @@ impl Kinds {
     fn list(&self, list: &mut [Entry<AddressKey>; MOST_KEYS]) -> usize
         ensures written { list.new ≡ over (kinds_in self.now.window.keeper.size (window_of self.now.window.keeper self.now.rows)) list.old }
         ensures named { result ≡ length (kinds_in self.now.window.keeper.size (window_of self.now.window.keeper self.now.rows)) }
-        ensures fits { result ≤ 63 }
+        ensures fits { result ≤ most_keys }
     {
         let threshold = eighth(self.window.size());
         self.window.list(&self.rows, &[], threshold, list).unwrap()

@@ -37,9 +37,8 @@ impl<P: Record> Model for Latest<P> {
 }
 
 impl<P: Record> State<P> {
-    ghost use Rattle.watch.specs.States.{fixed_of, IsSettled, Moved};
     ghost use Rattle.std.specs.Prelude.{◌≤◌, true, false};
-    ghost use Rattle.watch.specs.States.{slides};
+    ghost use Rattle.watch.specs.States.{fixed_of, IsSettled, Moved, slides};
 
     // It slides from now on, if it has its size.
     fn turned(self) -> State<P>
