@@ -1,14 +1,17 @@
 #!/usr/bin/env python3
-"""Makes the input that bedwatch is run on, and what it must print about it.
+"""Makes the inputs that bedwatch and linewatch are run on, and what they must print.
 
 Writes crates/bedwatch/stdin, with good lines and lines damaged in every way,
-and crates/bedwatch/stdout, by the rules of a sentence as they are written
-here, apart from the program. Each refusal comes at every column that it can
-have. Every run writes the same bytes. Run it anywhere: it takes no arguments.
+and crates/linewatch/stdin, with sentences of several kinds from several
+talkers and damaged lines among them; beside each its stdout, by the rules as
+they are written here, apart from the programs. In bedwatch's each refusal
+comes at every column that it can have. Every run writes the same bytes. Run it
+anywhere: it takes no arguments.
 """
 
 import random
 import re
+from collections import Counter
 from pathlib import Path
 
 LONGEST = 80
@@ -59,18 +62,33 @@ def clearance_column(line, star):
     return fields[3][1] if len(fields) > 3 else None
 
 
-def refusal(line):
-    """The number and the column of a line's refusal, or None for a reading."""
+def sentence_refusal(line):
+    """The number and the column of a line's refusal, or None for a sentence."""
     column = wrong_column(line)
     if column is not None:
         return 12, column
     star = line.index(b"*")
-    if line[star + 1 :] != digits(line[1:star]):
-        return 13, star + 2
+    return (13, star + 2) if line[star + 1 :] != digits(line[1:star]) else None
+
+
+def refusal(line):
+    """The number and the column of a line's refusal, or None for a reading."""
+    refused = sentence_refusal(line)
+    if refused is not None:
+        return refused
     if line[3:6] != b"DPT":
         return 14, 2
-    column = clearance_column(line, star)
+    column = clearance_column(line, line.index(b"*"))
     return None if column is None else (15, column)
+
+
+def kinds(addresses):
+    """What linewatch says at the end: the kinds that make an eighth of the latest 63 addresses."""
+    window = addresses[-63:]
+    threshold = max(1, (len(window) + 7) // 8)
+    # A Counter keeps the order of first places.
+    counts = Counter(address[2:] for address in window)
+    return [b"kind %s %d %d\n" % (kind, n, n) for kind, n in counts.items() if n >= threshold]
 
 
 def digits(part):
@@ -225,21 +243,50 @@ def damaged_input():
     return bytes(data) + b"\n\r\n\n" + GOOD + b"\n" + GOOD + b"\r"
 
 
+def line_input():
+    """Sentences of several kinds, and after each other one a damaged line. Of the latest 63 one kind makes just an eighth, and
+    one that came often before makes one less."""
+    chance = random.Random(2)
+    early = [b"MTW", b"ZDA", b"DPT", b"MTW", b"GLL", b"MTW", b"ZDA"] * 20
+    late = [b"DPT"] * 20 + [b"DBT"] * 8 + [b"MTW"] * 7 + [b"VHW"] * 9 + [b"ZDA"] * 3 + [b"GLL"] * 16
+    order = early + sorted(late, key=lambda _: chance.random())
+    talkers = [b"SD", b"II", b"VW", b"7Z"]
+    damaged = [*strange_lines(), *wrong_sums()][::4]
+    data = bytearray()
+    for number, kind in enumerate(order):
+        fields = b",%d.%d" % divmod(int(chance.random() * 1000), 10) if number % 5 else b""
+        data += sentence(talkers[int(chance.random() * 4)] + kind + fields) + (b"\r\n" if number % 3 == 0 else b"\n")
+        if number % 2:
+            damage = damaged[number // 2 % len(damaged)]
+            if sentence_refusal(damage):
+                data += damage + b"\n"
+    return bytes(data) + sentence(b"SDDPT")[:-1]
+
+
 def every_refusal():
     """Each refusal with each column that it can have."""
     columns = {12: range(1, 82), 13: range(8, 80), 14: [2], 15: range(7, 79)}
     return {(number, column) for number in columns for column in columns[number]}
 
 
+def store(program, data, refusals, ending):
+    """Writes a program's input, and what it must print about it."""
+    printed = [b"line %d refused %d at %d\n" % (n, *r) for n, r in enumerate(refusals, 1) if r]
+    folder = Path(__file__).resolve().parent.parent / "crates" / program
+    (folder / "stdin").write_bytes(data)
+    (folder / "stdout").write_bytes(b"".join(printed + ending))
+
+
 def main():
     data = damaged_input()
     refusals = [refusal(line) for line in lines_of(data)]
     assert set(refusals) == every_refusal() | {None}
-    printed = [b"line %d refused %d at %d\n" % (n, *r) for n, r in enumerate(refusals, 1) if r]
-    printed.append(b"readings %d\n" % refusals.count(None))
-    folder = Path(__file__).resolve().parent.parent / "crates" / "bedwatch"
-    (folder / "stdin").write_bytes(data)
-    (folder / "stdout").write_bytes(b"".join(printed))
+    store("bedwatch", data, refusals, [b"readings %d\n" % refusals.count(None)])
+    data = line_input()
+    lines = lines_of(data)
+    refusals = [sentence_refusal(line) for line in lines]
+    addresses = [line[1:6] for line, refused in zip(lines, refusals) if refused is None]
+    store("linewatch", data, refusals, kinds(addresses))
 
 
 if __name__ == "__main__":

@@ -29,7 +29,7 @@ module _ {K : Type 0} (alike : K → K → Bool) where
       ap (λ ys. x ∷ filter (λ other. not (alike x other)) ys) (firsts_push xs k)
       ∙ first_more (λ other. not (alike x other)) x k (firsts alike xs) (alike x k) (among alike xs k) refl
 
-  all_firsts : (P : K → Type 0) (xs : List K) → All P xs → All P (firsts alike xs)
+  pub all_firsts : (P : K → Type 0) (xs : List K) → All P xs → All P (firsts alike xs)
   all_firsts P [] h = All-nil P
   all_firsts P (x ∷ xs) h = All-cons P x _ (All-head P x xs h) (All-filter (λ other. not (alike x other)) P (firsts alike xs) (all_firsts P xs (All-tail P x xs h)))
 

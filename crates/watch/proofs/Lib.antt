@@ -1,2 +1,6 @@
-mod Folds
+mod Addresses
+mod Moves
+mod Pieces
 mod Reports
+mod Settled
+mod Streams

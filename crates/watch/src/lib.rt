@@ -1,43 +1,52 @@
-//! What bedwatch prints about an input, as values: bytes in, text out.
+//! What is printed about an input, as values: bytes in, text out.
 //!
-//! A line of the input that is no reading is refused: `line 7 refused 13 at 18` gives its number from 1, the refusal's number and the column.
-//! At the end stands how many lines were readings: `readings 42`.
+//! A line of the input that cannot be read is refused: `line 7 refused 13 at 18` gives its number from 1, the refusal's number
+//! and the column. At the end stands what a counter says of all that was read: `readings 42`.
 //! The first million lines are treated, and what follows them is ignored.
 #![tactic(auto)]
-
-ghost use Rattle.std.specs.Prelude.{◌≤◌};
-ghost use Rattle.watch.specs.Report.{most_lines};
 
 use lines::Cutter;
 use std::marker::Model;
 
 mod calls;
+mod counter;
+mod kinds;
+mod latest;
+mod readings;
+mod stream;
 mod treat;
+
+pub use counter::Counter;
+pub use kinds::Kinds;
+pub use latest::Latest;
+pub use readings::Readings;
+pub use stream::run;
+use treat::Counts;
 
 /// How many lines of an input are treated at most.
 pub const MOST_LINES: u32 = 1_000_000;
 
-// How many lines have been treated, and how many of them were readings.
-#[derive(Clone, Copy)]
-struct Counts {
-    lines: u32,
-    readings: u32,
-    ghost most: { lines ≤ most_lines },
-    ghost among: { readings ≤ lines },
-}
-
 /// The treatment of an input, as far as it has come.
 #[derive(Drop)]
-pub struct Bedwatch {
+pub struct Watch<C: Counter> {
     cutter: Cutter,
-    counts: Counts,
+    counts: Counts<C>,
 }
 
-// A watch is how far it has come.
-impl Model for Bedwatch {
-    ghost use Rattle.watch.specs.Progress.{Progress};
+/// What bedwatch says: how many lines are readings.
+pub type Bedwatch = Watch<Readings>;
 
-    ghost Value = { Progress };
+/// What linewatch says: which kinds of sentence are many.
+pub type Linewatch = Watch<Kinds>;
 
-    ghost view = { λ watch. record { kept = watch.cutter; lines = watch.counts.lines; readings = watch.counts.readings } };
+// A watch is how far it has come, and its counter.
+impl<C: Counter> Model for Watch<C> {
+    ghost use Rattle.watch.specs.Progress.{Watched};
+
+    ghost Value = { Watched C };
+
+    ghost view = { λ watch. record { progress = record { kept = watch.cutter; lines = watch.counts.lines }; counter = watch.counts.counter } };
 }
+
+#[cfg(test)]
+mod tests;
