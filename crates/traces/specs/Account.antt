@@ -1,5 +1,5 @@
 -- What the reference model keeps of a trace: a plain account of what was put and let go. Assumes nothing.
-use Rattle.std.specs.Prelude.{ℕ, ◌+◌, List, [], ◌∷◌, ◌++◌, length}
+use Rattle.std.specs.Prelude.{ℕ, ◌+◌, List, [], ◌∷◌, ◌++◌, drop, length, take}
 use Rattle.keeper.specs.declared.lengths.Lengths.{Lengths}
 use Rattle.keeper.specs.Figures.{Figures}
 
@@ -9,10 +9,6 @@ pub record Terms : Type 0 where
   pub span : ℕ
   pub need : Lengths
   pub lent : Lengths
-
--- the terms of a setting: what is needed follows from it
-abbrev pub terms : (ℕ → ℕ → Lengths) → ℕ → ℕ → Lengths → Terms
-terms need a k lent = record { accuracy = a; span = k; need = need a k; lent = lent }
 
 -- what the window is: any keeper's, one that is being filled to a size, or one that slides at that size
 pub data State : Type 0 where
@@ -41,7 +37,7 @@ module _ {K : Type 0} where
 
   -- the window's oldest key is let go, if there is one
   abbrev pub let_go : Account K → Account K
-  let_go a = elim (a.window) [ [] ↦ a | oldest ∷ rest ↦ record { state = a.state; past = a.past ++ oldest ∷ []; window = rest } ]
+  let_go a = record { state = a.state; past = a.past ++ take 1 a.window; window = drop 1 a.window }
 
   -- the same keys in another state
   abbrev pub turned_to : Account K → State → Account K

@@ -20,8 +20,16 @@ pub data Due (K : Type 0) : Type 0 where
   nothing : Due K
   refusal : WindowRefusal → Due K
   change : Account K → Due K
-  count : K → Due K
-  list : ℕ → Due K
+  count_of : K → Due K
+  list_at : ℕ → Due K
+
+-- an answer whose list is told another way
+abbrev pub told_as : {L M : Type 0} → (L → M) → Answer L → Answer M
+told_as tell Done = Done
+told_as tell (Refused e) = Refused e
+told_as tell (Counted floor ceiling) = Counted floor ceiling
+told_as tell (Listed told) = Listed (tell told)
+told_as tell NotInTrace = NotInTrace
 
 module _ {K : Type 0} where
   -- what is due where a keeper may refuse
@@ -31,8 +39,8 @@ module _ {K : Type 0} where
 
   -- a question, in any state
   abbrev pub asked : Terms → Account K → Call K → Due K
-  asked t a (Count key) = unless_refused (count_answer t.need t.lent tt) (count key)
-  asked t a (ListAt threshold) = unless_refused (question_answer t.need t.lent (figures_of t a) threshold (Ok tt)) (list threshold)
+  asked t a (Count key) = unless_refused (count_answer t.need t.lent tt) (count_of key)
+  asked t a (ListAt threshold) = unless_refused (question_answer t.need t.lent (figures_of t a) threshold (Ok tt)) (list_at threshold)
   asked t a other = nothing
 
   -- a call to a keeper
@@ -76,26 +84,26 @@ module _ {K : Type 0} where
 
   module _ (alike : K → K → Bool) where
     -- a count is right for the window as it is
-    abbrev pub CountsRight : Terms → Account K → K → Answer K → Type 0
+    abbrev pub CountsRight : Terms → Account K → K → Answer (List (Entry K)) → Type 0
     CountsRight t a key (Counted floor ceiling) = Bracket t.accuracy (length a.window) (true_count alike a.window key) (floor, ceiling)
     CountsRight t a key other = ⊥
 
     -- a list is right for the window as it is, and there is room for it; or there is a right list that is longer than the room
-    abbrev pub ListsRight : Terms → Account K → ℕ → ℕ → Answer K → Type 0
-    ListsRight t a room threshold (Listed entries) = (length entries.items ≤ room) × Lists alike t.accuracy threshold a.window entries.items
+    abbrev pub ListsRight : Terms → Account K → ℕ → ℕ → Answer (List (Entry K)) → Type 0
+    ListsRight t a room threshold (Listed entries) = (length entries ≤ room) × Lists alike t.accuracy threshold a.window entries
     ListsRight t a room threshold (Refused e) = (e ≡ Keeper ShortList) × ((entries : List (Entry K)) × (room < length entries) × Lists alike t.accuracy threshold a.window entries)
     ListsRight t a room threshold other = ⊥
 
     -- an answer is the one that is due
-    abbrev pub Meets : Terms → Account K → ℕ → Due K → Answer K → Type 0
+    abbrev pub Meets : Terms → Account K → ℕ → Due K → Answer (List (Entry K)) → Type 0
     Meets t a room nothing answer = answer ≡ NotInTrace
     Meets t a room (refusal e) answer = answer ≡ Refused e
     Meets t a room (change a') answer = answer ≡ Done
-    Meets t a room (count key) answer = CountsRight t a key answer
-    Meets t a room (list threshold) answer = ListsRight t a room threshold answer
+    Meets t a room (count_of key) answer = CountsRight t a key answer
+    Meets t a room (list_at threshold) answer = ListsRight t a room threshold answer
 
     -- calls have one answer each, the one that is due by the account as it is then
-    abbrev pub Conform : Terms → ℕ → Account K → List (Call K) → List (Answer K) → Type 0
+    abbrev pub Conform : Terms → ℕ → Account K → List (Call K) → List (Answer (List (Entry K))) → Type 0
     Conform t room a [] [] = Unit {0}
     Conform t room a [] (answer ∷ answers) = ⊥
     Conform t room a (call ∷ calls) [] = ⊥

@@ -1,6 +1,5 @@
 //! The calls of a trace, and what they answer.
 
-use keeper::Entry;
 use windows::WindowRefusal;
 
 /// A call of a trace. Each has the states in which it can be made; tables and list are lent to all alike.
@@ -22,17 +21,17 @@ pub enum Call<K> {
     List(u32),
 }
 
-/// What a call of a trace answers.
+/// What a call of a trace answers. Of a list it tells an `L`: how many entries were written, or the entries themselves.
 #[derive(Debug, Drop)]
-pub enum Answer<K> {
+pub enum Answer<L> {
     /// The call was accepted.
     Done,
     /// The call was refused, and changed nothing.
     Refused(WindowRefusal),
     /// A count.
     Counted { floor: u32, ceiling: u32 },
-    /// The entries that a list wrote.
-    Listed(Vec<Entry<K>>),
+    /// A list.
+    Listed(L),
     /// The state has no such call: it changed nothing.
     NotInTrace,
 }

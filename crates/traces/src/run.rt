@@ -1,22 +1,43 @@
 //! Whole traces.
 
-ghost use Rattle.std.specs.Prelude.{IfOk};
-ghost use Rattle.keeper.specs.Tables.{lengths};
-ghost use Rattle.traces.specs.Account.{terms};
+ghost use Rattle.std.specs.Prelude.{◌≡◌, ◌≤◌, IfOk, length, take};
+ghost use Rattle.traces.specs.Model.{told_as};
+ghost use Rattle.traces.specs.Steps.{Fits};
 ghost use Rattle.traces.specs.Traces.{Runs};
 
-use crate::calls::Call;
+use crate::calls::{Answer, Call};
 use crate::stage::{Stage, Trace};
-use crate::steps::step;
 use keeper::{Entry, Keeper, Setting};
 use likeness::Likeness;
 use std::alloc::{AllocError, Global};
 use tally::{Head, Row};
 
+// The answer with the entries that a list has just written. They are copied, since the next list is written over them.
+fn with_entries<K: Likeness>(
+    answer: Answer<usize>,
+    list: &[Entry<K>],
+    heap: Global,
+) -> Result<Answer<Vec<Entry<K>>>, AllocError>
+    requires { Fits (length list.now) answer }
+    ensures { IfOk result (λ told. told_as (λ entries. entries.items) told ≡ told_as (λ count. take count list.now) answer) }
+{
+    Ok(match answer {
+        Answer::Done => Answer::Done,
+        Answer::Refused(refusal) => Answer::Refused(refusal),
+        Answer::Counted { floor, ceiling } => Answer::Counted { floor, ceiling },
+        Answer::Listed(count) => {
+            let mut entries = Vec::new(heap);
+            entries.extend_from_slice(&list[..count])?;
+            Answer::Listed(entries)
+        }
+        Answer::NotInTrace => Answer::NotInTrace,
+    })
+}
+
 /// Makes a keeper and performs the calls, each with the tables that the one before it left. Whatever the tables hold, however
-/// long they are and whichever calls come, each answer is the one that the reference model demands of it.
+/// long they are and whichever calls come, each answer is the one that the reference model demands.
 ///
-/// Only want of memory fails: the answers are kept on the heap.
+/// The answers are kept on the heap, and want of memory is the one error.
 pub fn run_trace<K: Likeness, P: Keeper<K> + Drop>(
     setting: Setting,
     rows: &mut [Row<K>],
@@ -25,16 +46,15 @@ pub fn run_trace<K: Likeness, P: Keeper<K> + Drop>(
     calls: &[Call<K>],
     heap: Global,
 ) -> Result<Trace<K, P>, AllocError>
-    ensures { IfOk result (λ trace. Runs P.Record.figures P.Record.need P.Keeper.holds K.Likeness.alike
-        (terms P.Record.need setting.accuracy setting.span (lengths rows.old heads.old)) calls.now
-        rows.old heads.old list.old trace rows.new heads.new list.new) }
+    ensures { IfOk result (λ trace. Runs P.Record.figures P.Keeper.holds P.Record.need K.Likeness.alike setting.accuracy setting.span
+        calls.now rows.old heads.old list.old trace rows.new heads.new list.new) }
 {
     let mut stage = Stage::Keeper(<P as Keeper<K>>::fresh(setting));
     let mut answers = Vec::new(heap);
     for call in calls {
-        let (next, answer) = step(stage, rows, heads, list, *call, heap)?;
+        let (next, answer) = stage.step(rows, heads, list, *call);
         stage = next;
-        answers.push(answer)?;
+        answers.push(with_entries(answer, list, heap)?)?;
     }
     Ok(Trace { stage, answers })
 }

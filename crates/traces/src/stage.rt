@@ -1,7 +1,7 @@
 //! Where a trace stands.
 
 use crate::calls::Answer;
-use keeper::Record;
+use keeper::{Entry, Record};
 use windows::{Filling, Sliding};
 
 /// Where a trace stands: the keeper alone, or a fixed window over it.
@@ -16,5 +16,5 @@ pub enum Stage<P: Record> {
 #[derive(Drop)]
 pub struct Trace<K, P: Record> {
     pub stage: Stage<P>,
-    pub answers: Vec<Answer<K>>,
+    pub answers: Vec<Answer<Vec<Entry<K>>>>,
 }

@@ -1,19 +1,18 @@
 //! One call of a trace, in each of its states.
 
-ghost use Rattle.std.specs.Prelude.{◌≡◌, ◌≤◌, IfOk, length, take};
-ghost use Rattle.traces.specs.Steps.{Steps, TellsCount, TellsDone, TellsList};
+ghost use Rattle.std.specs.Prelude.{◌≡◌};
+ghost use Rattle.traces.specs.Steps.{counted_by, done_by, listed_by, Steps};
 
 use crate::calls::{Answer, Call};
 use crate::stage::Stage;
-use keeper::{Entry, Keeper, Refusal};
+use keeper::{Entry, Keeper, Record, Refusal};
 use likeness::Likeness;
-use std::alloc::{AllocError, Global};
 use tally::{Head, Row};
 use windows::{Filling, Sliding};
 
 // What is told of a call that only changes the window.
-fn told<K>(outcome: Result<(), Refusal>) -> Answer<K>
-    ensures { TellsDone outcome result }
+fn done(outcome: Result<(), Refusal>) -> Answer<usize>
+    ensures { result ≡ done_by outcome }
 {
     match outcome {
         Ok(()) => Answer::Done,
@@ -22,8 +21,8 @@ fn told<K>(outcome: Result<(), Refusal>) -> Answer<K>
 }
 
 // What is told of a count.
-fn counted<K>(outcome: Result<(u32, u32), Refusal>) -> Answer<K>
-    ensures { TellsCount outcome result }
+fn counted(outcome: Result<(u32, u32), Refusal>) -> Answer<usize>
+    ensures { result ≡ counted_by outcome }
 {
     match outcome {
         Ok((floor, ceiling)) => Answer::Counted { floor, ceiling },
@@ -31,142 +30,131 @@ fn counted<K>(outcome: Result<(u32, u32), Refusal>) -> Answer<K>
     }
 }
 
-// What is told of a list: the entries are copied, since the next list is written over them.
-fn listed<K: Likeness>(
-    outcome: Result<usize, Refusal>,
-    list: &[Entry<K>],
-    heap: Global,
-) -> Result<Answer<K>, AllocError>
-    requires { IfOk outcome (λ count. count ≤ length list.now) }
-    ensures { IfOk result (λ answer. TellsList list.now outcome answer) }
+// What is told of a list.
+fn listed(outcome: Result<usize, Refusal>) -> Answer<usize>
+    ensures { result ≡ listed_by outcome }
 {
     match outcome {
-        Ok(count) => {
-            let mut entries = Vec::new(heap);
-            entries.extend_from_slice(&list[..count])?;
-            Ok(Answer::Listed(entries))
-        }
-        Err(refusal) => Ok(Answer::Refused(refusal.into())),
+        Ok(count) => Answer::Listed(count),
+        Err(refusal) => Answer::Refused(refusal.into()),
     }
 }
 
 // A call to a keeper.
-fn at_keeper<K: Likeness, P: Keeper<K> + Drop>(
+fn at_keeper<K: Likeness, P: Keeper<K>>(
     mut keeper: P,
     rows: &mut [Row<K>],
     heads: &mut [Head],
     list: &mut [Entry<K>],
     call: Call<K>,
-    heap: Global,
-) -> Result<(Stage<P>, Answer<K>), AllocError>
-    ensures { IfOk result (λ next. Steps P.Record.figures P.Record.need P.Keeper.holds K.Likeness.alike (Stage.Keeper keeper) rows.old heads.old list.old call next.0 next.1 rows.new heads.new list.new) }
+) -> (Stage<P>, Answer<usize>)
+    ensures { Steps P.Record.figures P.Keeper.holds P.Record.need K.Likeness.alike (Stage.Keeper keeper) rows.old heads.old list.old call result.0 result.1 rows.new heads.new list.new }
 {
     match call {
         Call::Fix(goal) => match Filling::new(keeper, goal) {
-            Ok(filling) => Ok((Stage::Filling(filling), Answer::Done)),
-            Err(back) => Ok((Stage::Keeper(back.value), Answer::Refused(back.refusal))),
+            Ok(filling) => (Stage::Filling(filling), Answer::Done),
+            Err(back) => (Stage::Keeper(back.value), Answer::Refused(back.refusal)),
         },
         Call::Put(key) => {
             let outcome = keeper.put(rows, heads, key);
-            Ok((Stage::Keeper(keeper), told(outcome)))
+            (Stage::Keeper(keeper), done(outcome))
         }
         Call::DropOldest => {
             let outcome = keeper.drop_oldest();
-            Ok((Stage::Keeper(keeper), told(outcome)))
+            (Stage::Keeper(keeper), done(outcome))
         }
         Call::Count(key) => {
             let outcome = keeper.count(rows, heads, &key);
-            Ok((Stage::Keeper(keeper), counted(outcome)))
+            (Stage::Keeper(keeper), counted(outcome))
         }
         Call::List(threshold) => {
             let outcome = keeper.list(rows, heads, threshold, list);
-            let answer = listed(outcome, list, heap)?;
-            Ok((Stage::Keeper(keeper), answer))
+            (Stage::Keeper(keeper), listed(outcome))
         }
-        Call::Turn | Call::Slide(_) => Ok((Stage::Keeper(keeper), Answer::NotInTrace)),
+        Call::Turn | Call::Slide(_) => (Stage::Keeper(keeper), Answer::NotInTrace),
     }
 }
 
 // A call to a window that is being filled.
-fn at_filling<K: Likeness, P: Keeper<K> + Drop>(
+fn at_filling<K: Likeness, P: Keeper<K>>(
     mut window: Filling<P>,
     rows: &mut [Row<K>],
     heads: &mut [Head],
     list: &mut [Entry<K>],
     call: Call<K>,
-    heap: Global,
-) -> Result<(Stage<P>, Answer<K>), AllocError>
-    ensures { IfOk result (λ next. Steps P.Record.figures P.Record.need P.Keeper.holds K.Likeness.alike (Stage.Filling window) rows.old heads.old list.old call next.0 next.1 rows.new heads.new list.new) }
+) -> (Stage<P>, Answer<usize>)
+    ensures { Steps P.Record.figures P.Keeper.holds P.Record.need K.Likeness.alike (Stage.Filling window) rows.old heads.old list.old call result.0 result.1 rows.new heads.new list.new }
 {
     match call {
         Call::Put(key) => {
             let outcome = window.put(rows, heads, key);
-            Ok((Stage::Filling(window), told(outcome)))
+            (Stage::Filling(window), done(outcome))
         }
         Call::Turn => match window.turn() {
-            Ok(sliding) => Ok((Stage::Sliding(sliding), Answer::Done)),
-            Err(back) => Ok((Stage::Filling(back.value), Answer::Refused(back.refusal))),
+            Ok(sliding) => (Stage::Sliding(sliding), Answer::Done),
+            Err(back) => (Stage::Filling(back.value), Answer::Refused(back.refusal)),
         },
         Call::Count(key) => {
             let outcome = window.count(rows, heads, &key);
-            Ok((Stage::Filling(window), counted(outcome)))
+            (Stage::Filling(window), counted(outcome))
         }
         Call::List(threshold) => {
             let outcome = window.list(rows, heads, threshold, list);
-            let answer = listed(outcome, list, heap)?;
-            Ok((Stage::Filling(window), answer))
+            (Stage::Filling(window), listed(outcome))
         }
         Call::Fix(_) | Call::DropOldest | Call::Slide(_) => {
-            Ok((Stage::Filling(window), Answer::NotInTrace))
+            (Stage::Filling(window), Answer::NotInTrace)
         }
     }
 }
 
 // A call to a window that slides.
-fn at_sliding<K: Likeness, P: Keeper<K> + Drop>(
+fn at_sliding<K: Likeness, P: Keeper<K>>(
     mut window: Sliding<P>,
     rows: &mut [Row<K>],
     heads: &mut [Head],
     list: &mut [Entry<K>],
     call: Call<K>,
-    heap: Global,
-) -> Result<(Stage<P>, Answer<K>), AllocError>
-    ensures { IfOk result (λ next. Steps P.Record.figures P.Record.need P.Keeper.holds K.Likeness.alike (Stage.Sliding window) rows.old heads.old list.old call next.0 next.1 rows.new heads.new list.new) }
+) -> (Stage<P>, Answer<usize>)
+    ensures { Steps P.Record.figures P.Keeper.holds P.Record.need K.Likeness.alike (Stage.Sliding window) rows.old heads.old list.old call result.0 result.1 rows.new heads.new list.new }
 {
     match call {
         Call::Slide(key) => {
             let outcome = window.slide(rows, heads, key);
-            Ok((Stage::Sliding(window), told(outcome)))
+            (Stage::Sliding(window), done(outcome))
         }
         Call::Count(key) => {
             let outcome = window.count(rows, heads, &key);
-            Ok((Stage::Sliding(window), counted(outcome)))
+            (Stage::Sliding(window), counted(outcome))
         }
         Call::List(threshold) => {
             let outcome = window.list(rows, heads, threshold, list);
-            let answer = listed(outcome, list, heap)?;
-            Ok((Stage::Sliding(window), answer))
+            (Stage::Sliding(window), listed(outcome))
         }
         Call::Fix(_) | Call::Put(_) | Call::DropOldest | Call::Turn => {
-            Ok((Stage::Sliding(window), Answer::NotInTrace))
+            (Stage::Sliding(window), Answer::NotInTrace)
         }
     }
 }
 
-// One call, in any state.
-pub(crate) fn step<K: Likeness, P: Keeper<K> + Drop>(
-    stage: Stage<P>,
-    rows: &mut [Row<K>],
-    heads: &mut [Head],
-    list: &mut [Entry<K>],
-    call: Call<K>,
-    heap: Global,
-) -> Result<(Stage<P>, Answer<K>), AllocError>
-    ensures { IfOk result (λ next. Steps P.Record.figures P.Record.need P.Keeper.holds K.Likeness.alike stage rows.old heads.old list.old call next.0 next.1 rows.new heads.new list.new) }
-{
-    match stage {
-        Stage::Keeper(keeper) => at_keeper(keeper, rows, heads, list, call, heap),
-        Stage::Filling(window) => at_filling(window, rows, heads, list, call, heap),
-        Stage::Sliding(window) => at_sliding(window, rows, heads, list, call, heap),
+impl<P: Record> Stage<P> {
+    /// Performs one call, in whatever state the trace stands. The answer is right for every window that record and tables are true to,
+    /// and then they are true to what the call makes of it. A call that is refused or that the state does not have changes nothing.
+    pub fn step<K: Likeness>(
+        self,
+        rows: &mut [Row<K>],
+        heads: &mut [Head],
+        list: &mut [Entry<K>],
+        call: Call<K>,
+    ) -> (Stage<P>, Answer<usize>)
+    where
+        P: Keeper<K>,
+        ensures { Steps P.Record.figures P.Keeper.holds P.Record.need K.Likeness.alike self rows.old heads.old list.old call result.0 result.1 rows.new heads.new list.new }
+    {
+        match self {
+            Stage::Keeper(keeper) => at_keeper(keeper, rows, heads, list, call),
+            Stage::Filling(window) => at_filling(window, rows, heads, list, call),
+            Stage::Sliding(window) => at_sliding(window, rows, heads, list, call),
+        }
     }
 }

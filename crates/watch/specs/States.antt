@@ -6,7 +6,7 @@ use Rattle.keeper.specs.declared.lengths.Lengths.{Lengths}
 use Rattle.keeper.specs.declared.refusal.Refusal.{Refusal}
 use Rattle.keeper.specs.Figures.{Figures}
 use Rattle.windows.specs.Fixed.{Fixed}
-use Rattle.windows.specs.Windows.{Filled, Slid}
+use Rattle.windows.specs.Windows.{PutWhileFilling, Slid}
 use Rattle.watch.specs.declared.latest.State.{State}
 use Rattle.watch.specs.declared.latest.State.TheVariants.{Filling, Sliding}
 
@@ -29,7 +29,7 @@ module _ {P : Type 0} (figures : P → Figures) where
   module _ {K : Type 0} (holds : P → List (Row K) → List Head → List K → List K → Type 0) (need : ℕ → ℕ → Lengths) where
     -- A put or a slide, by the state.
     abbrev pub Moved : State P → List (Row K) → List Head → K → Result (Unit {0}) Refusal → State P → List (Row K) → List Head → Type 0
-    Moved (Filling w) rows heads key r (Filling w') rows' heads' = Filled figures holds need w rows heads key r w' rows' heads'
+    Moved (Filling w) rows heads key r (Filling w') rows' heads' = PutWhileFilling figures holds need w rows heads key r w' rows' heads'
     Moved (Sliding w) rows heads key r (Sliding w') rows' heads' = Slid figures holds need w rows heads key r w' rows' heads'
     Moved (Filling w) rows heads key r (Sliding w') rows' heads' = ⊥
     Moved (Sliding w) rows heads key r (Filling w') rows' heads' = ⊥

@@ -1,5 +1,5 @@
 -- Which calls of a fixed window are refused, and as what. Where several reasons hold, the lowest number is told. Assumes nothing.
-use Rattle.std.specs.Prelude.{ℕ, ◌^◌, Bool, if◌then◌else◌, not, ◌||◌, List, ◌++◌, Ok, Err, Result, ◌==◌, nat_le, nat_lt, codes, decimal}
+use Rattle.std.specs.Prelude.{ℕ, ◌^◌, Bool, if◌then◌else◌, ◌&&◌, List, ◌++◌, Ok, Err, Result, ◌==◌, nat_le, nat_lt, codes, decimal}
 use Rattle.keeper.specs.declared.lengths.Lengths.{Lengths}
 use Rattle.keeper.specs.declared.refusal.Refusal.{Refusal}
 use Rattle.keeper.specs.declared.refusal.Refusal.TheVariants.{ShortTable, Spent, Full}
@@ -21,7 +21,7 @@ refusal_text refusal = codes "refused " ++ decimal (number_of refusal)
 
 -- whether a window of this size can stand on a keeper: the size is from 1 to 2^span - 1, and the keeper's window is empty
 abbrev pub may_stand : Figures → ℕ → Bool
-may_stand f goal = not (nat_lt goal 1 || nat_le (2 ^ f.span) goal || nat_lt 0 f.size)
+may_stand f goal = nat_le 1 goal && nat_lt goal (2 ^ f.span) && f.size == 0
 
 -- whether a window has its size
 abbrev pub is_full : Figures → ℕ → Bool
@@ -32,7 +32,7 @@ abbrev pub fill_answer : Lengths → Lengths → Figures → ℕ → Result (Uni
 fill_answer need lent f goal =
     if short need lent then Err ShortTable
     else if nat_le most_puts f.puts then Err Spent
-    else if nat_le goal f.size then Err Full
+    else if is_full f goal then Err Full
     else Ok tt
 
 -- what a slide answers

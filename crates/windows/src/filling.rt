@@ -2,7 +2,7 @@
 
 ghost use Rattle.std.specs.Prelude.{◌≡◌, ◌≤◌, ◌^◌, ◌<◌};
 ghost use Rattle.keeper.specs.Rules.{Counted, Listed};
-ghost use Rattle.windows.specs.Windows.{Filled, Made, Turned};
+ghost use Rattle.windows.specs.Windows.{Made, PutWhileFilling, Turned};
 
 use crate::fixed::{Filling, Sliding};
 use crate::refusal::{Returned, WindowRefusal};
@@ -51,7 +51,7 @@ impl<P: Record> Filling<P> {
     ) -> Result<(), Refusal>
     where
         P: Keeper<K>,
-        ensures { Filled P.Record.figures P.Keeper.holds P.Record.need self.old rows.old heads.old key result self.new rows.new heads.new }
+        ensures { PutWhileFilling P.Record.figures P.Keeper.holds P.Record.need self.old rows.old heads.old key result self.new rows.new heads.new }
     {
         if self.keeper.size() == self.goal {
             admit_put(&self.keeper, Lengths::of(rows, heads))?;

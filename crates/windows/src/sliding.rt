@@ -29,8 +29,7 @@ impl<P: Record> Sliding<P> {
     ) -> Result<(), Refusal>
     where
         P: Keeper<K>,
-        ensures slides { Slid P.Record.figures P.Keeper.holds P.Record.need self.old rows.old heads.old key result self.new rows.new heads.new }
-        ensures some { 1 ≤ (P.Record.figures self.old.keeper).size }
+        ensures { Slid P.Record.figures P.Keeper.holds P.Record.need self.old rows.old heads.old key result self.new rows.new heads.new }
     {
         self.keeper.put(rows, heads, key)?;
         self.keeper.drop_oldest()

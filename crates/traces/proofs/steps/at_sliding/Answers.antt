@@ -3,10 +3,15 @@ use Rattle.traces.proofs.Listed.{steps_list}
 use Rattle.traces.proofs.Slid.{steps_slide}
 use Rattle.traces.proofs.steps.at_sliding.Goals as goal
 
-pub returns-in_ok-answer-in-List : goal.returns-in_ok-answer-in-List
-returns-in_ok-answer-in-List g c = rw c.in-List.is (steps_list g.P.Record.figures g.P.Record.need g.P.Keeper.holds g.K.Likeness.alike _ _ (Sliding c.args.window) _ _ _ _ _ c.list-outcome.result _ c.list-outcome.ensures c.in_ok-answer-in-List.ensures)
+pub returns-in-List : goal.returns-in-List
+returns-in-List g c =
+    rw c.in-List.is
+    (rw c.listed.ensures
+    (steps_list g.P.Record.figures g.P.Keeper.holds g.P.Record.need g.K.Likeness.alike _ _ (Sliding c.args.window) _ _ _ _ _ _ c.list-outcome.ensures))
 
 pub returns-in-Slide : goal.returns-in-Slide
 returns-in-Slide g c =
     rw c.in-Slide.is
-    (steps_slide g.P.Record.figures g.P.Record.need g.P.Keeper.holds g.K.Likeness.alike c.args.window c.slide-outcome.new.self _ c.slide-outcome.new.rows _ c.slide-outcome.new.heads _ _ c.slide-outcome.result _ c.slide-outcome.ensures.slides c.slide-outcome.ensures.some c.slide-outcome.auto.rows c.slide-outcome.auto.heads c.told.ensures)
+    (rw c.done.ensures
+    (steps_slide g.P.Record.figures g.P.Keeper.holds g.P.Record.need g.K.Likeness.alike c.args.window c.slide-outcome.new.self _ c.slide-outcome.new.rows _ c.slide-outcome.new.heads _ _ _
+      c.slide-outcome.ensures c.slide-outcome.auto.rows c.slide-outcome.auto.heads))
