@@ -47,3 +47,8 @@ module _ {P K : Type 0} (figures : P → Figures) (holds : P → List (Row K) �
     pub list_after : list' ≡ written list (told_as (λ count. take count list') answer)
     pub rows_rest : drop (needed figures need (keeper_of s)).rows rows' ≡ drop (needed figures need (keeper_of s)).rows rows
     pub heads_rest : drop (needed figures need (keeper_of s)).heads heads' ≡ drop (needed figures need (keeper_of s)).heads heads
+
+  -- the same, where the answer tells the entries
+  abbrev pub StepsTelling : Stage P → List (Row K) → List Head → List (Entry K) → Call K → Stage P → Answer (List (Entry K)) → List (Row K) → List Head → List (Entry K) → Type 0
+  StepsTelling s rows heads list call s' told rows' heads' list' =
+      (answer : Answer ℕ) × Steps s rows heads list call s' answer rows' heads' list' × (told ≡ told_as (λ count. take count list') answer)

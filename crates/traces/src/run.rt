@@ -2,7 +2,7 @@
 
 ghost use Rattle.std.specs.Prelude.{◌≡◌, ◌≤◌, IfOk, length, take};
 ghost use Rattle.traces.specs.Model.{told_as};
-ghost use Rattle.traces.specs.Steps.{Fits};
+ghost use Rattle.traces.specs.Steps.{Fits, StepsTelling};
 ghost use Rattle.traces.specs.Traces.{Runs};
 
 use crate::calls::{Answer, Call};
@@ -34,6 +34,23 @@ fn with_entries<K: Likeness>(
     })
 }
 
+// One call, with the entries that it listed.
+fn perform<K: Likeness, P: Keeper<K> + Drop>(
+    stage: Stage<P>,
+    rows: &mut [Row<K>],
+    heads: &mut [Head],
+    list: &mut [Entry<K>],
+    call: Call<K>,
+    heap: Global,
+) -> Result<(Stage<P>, Answer<Vec<Entry<K>>>), AllocError>
+    ensures { IfOk result (λ next. StepsTelling P.Record.figures P.Keeper.holds P.Record.need K.Likeness.alike stage rows.old heads.old list.old call
+        next.0 (told_as (λ entries. entries.items) next.1) rows.new heads.new list.new) }
+{
+    let (next, answer) = stage.step(rows, heads, list, call);
+    let told = with_entries(answer, list, heap)?;
+    Ok((next, told))
+}
+
 /// Makes a keeper and performs the calls, each with the tables that the one before it left. Whatever the tables hold, however
 /// long they are and whichever calls come, each answer is the one that the reference model demands.
 ///
@@ -52,9 +69,9 @@ pub fn run_trace<K: Likeness, P: Keeper<K> + Drop>(
     let mut stage = Stage::Keeper(<P as Keeper<K>>::fresh(setting));
     let mut answers = Vec::new(heap);
     for call in calls {
-        let (next, answer) = stage.step(rows, heads, list, *call);
+        let (next, answer) = perform(stage, rows, heads, list, *call, heap)?;
         stage = next;
-        answers.push(with_entries(answer, list, heap)?)?;
+        answers.push(answer)?;
     }
     Ok(Trace { stage, answers })
 }

@@ -14,7 +14,7 @@ use Rattle.keeper.specs.Tables.{lengths, needed}
 use Rattle.windows.specs.declared.refusal.WindowRefusal.TheVariants.{Keeper}
 use Rattle.windows.specs.Fixed.{Fixed}
 use Rattle.windows.specs.Refusals.{fill_answer, slide_answer}
-use Rattle.windows.specs.Windows.{Filled, Slid}
+use Rattle.windows.specs.Windows.{PutWhileFilling, Slid}
 use Rattle.watch.specs.declared.latest.State.{State}
 use Rattle.watch.specs.declared.latest.State.TheVariants.{Filling, Sliding}
 use Rattle.watch.specs.Latest.{latest, earlier, moved_on, HoldsLatest, Accepted, Rejected}
@@ -37,7 +37,7 @@ module _ {P K : Type 0} (figures : P → Figures) (holds : P → List (Row K) �
       subst (λ ks. TrueTo figures holds w'.keeper rows' heads' ks (latest w'.goal keys)) (sym split.0)
       (subst (λ ks. TrueTo figures holds w'.keeper rows' heads' past ks) (sym split.1) t)
 
-  filled_takes : (figures w.keeper).size < w.goal → Filled figures holds need w rows heads key (Ok tt) w' rows' heads' → (keys : List K) → HoldsLatest figures holds w rows heads keys → HoldsLatest figures holds w' rows' heads' (keys ++ key ∷ [])
+  filled_takes : (figures w.keeper).size < w.goal → PutWhileFilling figures holds need w rows heads key (Ok tt) w' rows' heads' → (keys : List K) → HoldsLatest figures holds w rows heads keys → HoldsLatest figures holds w' rows' heads' (keys ++ key ∷ [])
   filled_takes room f keys t =
       let past = earlier w.goal keys in
       let window = latest w.goal keys in

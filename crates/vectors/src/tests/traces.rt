@@ -1,5 +1,5 @@
 use super::{are_entries, are_rows, key, untouched, used_list, used_rows};
-use keeper::{Record, Setting};
+use keeper::{Entry, Record, Setting};
 use likeness::{AddressKey, true_count};
 use ring::Ring;
 use std::alloc::{AllocError, Global};
@@ -17,7 +17,7 @@ enum Wanted<'a> {
     NotInTrace,
 }
 
-fn is_answer(rt: &impl Abort, answer: &Answer<AddressKey>, wanted: Wanted) {
+fn is_answer(rt: &impl Abort, answer: &Answer<Vec<Entry<AddressKey>>>, wanted: Wanted) {
     match (answer, wanted) {
         (Answer::Done, Wanted::Done) | (Answer::NotInTrace, Wanted::NotInTrace) => {}
         (Answer::Refused(refusal), Wanted::Refused(number)) => {
@@ -33,7 +33,7 @@ fn is_answer(rt: &impl Abort, answer: &Answer<AddressKey>, wanted: Wanted) {
 
 fn are_answers(
     rt: &impl Abort,
-    answers: &[Answer<AddressKey>],
+    answers: &[Answer<Vec<Entry<AddressKey>>>],
     wanted: &[(Call<AddressKey>, Wanted)],
 ) {
     assert_eq!(rt; answers.len(), wanted.len());

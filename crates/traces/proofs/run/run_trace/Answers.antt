@@ -19,10 +19,11 @@ loop-call-preserved g c =
     let so_far = SoFar g.P.Record.figures g.P.Keeper.holds g.P.Record.need g.K.Likeness.alike t c.args.calls.now c.args.list.now c.args.rows.now c.args.heads.now in
     let answers = map (told_as (λ entries. entries.items)) c.loop-call.answers.items in
     let split : drop c.loop-call.call-index c.args.calls.now ≡ c.call-item.result ∷ drop (c.loop-call.call-index + 1) c.args.calls.now = grind (arith, common_steps) in
+    let step = c.in_ok-next.ensures in
     let next = so_far_step g.P.Record.figures g.P.Keeper.holds g.P.Record.need g.K.Likeness.alike t c.args.calls.now c.args.list.now c.args.rows.now c.args.heads.now c.call-item.result _
-          c.loop-call.stage _ answers c.step-next.result.1 c.loop-call.rows c.step-next.new.rows c.loop-call.heads c.step-next.new.heads c.loop-call.list c.step-next.new.list c.step-next.ensures c.step-next.auto.list
+          c.loop-call.stage _ answers step.0 c.loop-call.rows c.perform.new.rows c.loop-call.heads c.perform.new.heads c.loop-call.list c.perform.new.list step.1 c.perform.auto.list
           (subst (λ rest. so_far rest c.loop-call.stage answers c.loop-call.rows c.loop-call.heads c.loop-call.list) split c.loop-call.invariant) in
-    rw c.in_ok-push.ensures.items (rw (map-append (told_as (λ entries. entries.items)) c.loop-call.answers.items _) (rw c.in_ok-with_entries.ensures next))
+    rw c.in_ok-push.ensures.items (rw (map-append (told_as (λ entries. entries.items)) c.loop-call.answers.items _) (rw step.2 next))
 
 pub returns : goal.returns
 returns g c =
