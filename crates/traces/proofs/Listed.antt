@@ -79,9 +79,10 @@ module _ {P K : Type 0} (figures : P → Figures) (holds : P → List (Row K) �
             let same : unfit (figures p) threshold ≡ unfit (figures_of t a) threshold = ap (λ n. threshold == 0 || nat_lt (threshold * 2 ^ (figures p).accuracy) n) true_to.size in
             rw (asked_list s t a threshold) (rw (next_list a (question_answer t.need t.lent (figures_of t a) threshold (Ok tt)) threshold) (
               list_right before now entries r e.written e.kept alike t a threshold (short t.need t.lent) (unfit (figures_of t a) threshold) _ refl
-                (e.answer ∙ ap (λ low. answered before now entries (short t.need t.lent) low (nat_lt (length before) (length entries))) same)
-                (λ fit. e.right (same ∙ fit) past window true_to),
-              record { state = refl; terms = refl; true_to = true_to }));
+                  (e.answer ∙ ap (λ low. answered before now entries (short t.need t.lent) low (nat_lt (length before) (length entries))) same)
+                  (λ fit. e.right (same ∙ fit) past window true_to),
+              record { state = refl; terms = refl; true_to = true_to },
+            ));
         fits = after.0;
         list_after = after.1;
         rows_rest = refl;

@@ -22,8 +22,8 @@ module _ {P K : Type 0} (figures : P → Figures) (holds : P → List (Row K) �
       → Meets alike t a (length list) (due t a call) (told_as (λ count. take count list') answer) × Follows figures holds need t (next t a call) s' rows' heads'
   step_at t a s rows heads list call s' answer rows' heads' list' e st =
       let goes : Terms → State → Type 0 = λ terms state.
-            let b : Account K = record { state = state; past = a.past; window = a.window } in
-            Meets alike terms b (length list) (due terms b call) (told_as (λ count. take count list') answer) × Follows figures holds need terms (next terms b call) s' rows' heads' in
+      let b : Account K = record { state = state; past = a.past; window = a.window } in
+      Meets alike terms b (length list) (due terms b call) (told_as (λ count. take count list') answer) × Follows figures holds need terms (next terms b call) s' rows' heads' in
       subst (λ terms. goes terms a.state) st.terms
       (subst (goes (terms_at figures holds need (keeper_of s) rows heads)) st.state (e.goes a.past a.window st.true_to))
 
@@ -73,6 +73,7 @@ module _ {P K : Type 0} (figures : P → Figures) (holds : P → List (Row K) �
     pub so_far_end : (s : Stage P) (answers : List (Answer (List (Entry K)))) (rows' : List (Row K)) (heads' : List Head) (list' : List (Entry K))
         → SoFar t calls list rows heads [] s answers rows' heads' list'
         → Conform alike t (length list) blank calls answers × Follows figures holds need t (after t blank calls) s rows' heads'
-    so_far_end s answers rows' heads' list' h =
-        (subst (Conform alike t (length list) blank calls) (append-nil answers) (h.right [] tt),
-         subst (λ a. Follows figures holds need t a s rows' heads') h.leads h.follows)
+    so_far_end s answers rows' heads' list' h = (
+      subst (Conform alike t (length list) blank calls) (append-nil answers) (h.right [] tt),
+      subst (λ a. Follows figures holds need t a s rows' heads') h.leads h.follows,
+    )

@@ -19,9 +19,8 @@ use Rattle.traces.specs.Steps.{Fits, Steps, done_by}
 use Rattle.traces.specs.Traces.{Follows, terms_at, written}
 
 module _ {P K : Type 0} (figures : P → Figures) (holds : P → List (Row K) → List Head → List K → List K → Type 0) (need : ℕ → ℕ → Lengths) (alike : K → K → Bool)
-  (w w' : Fixed P) (rows rows' : List (Row K)) (heads heads' : List Head) (list : List (Entry K)) (key : K) (r : Result (Unit {0}) Refusal)
-  (e : windows.Slid figures holds need w rows heads key r w' rows' heads') (rows_kept : length rows' ≡ length rows) (heads_kept : length heads' ≡ length heads) where
-
+    (w w' : Fixed P) (rows rows' : List (Row K)) (heads heads' : List Head) (list : List (Entry K)) (key : K) (r : Result (Unit {0}) Refusal)
+    (e : windows.Slid figures holds need w rows heads key r w' rows' heads') (rows_kept : length rows' ≡ length rows) (heads_kept : length heads' ≡ length heads) where
   abbrev t : Terms
   t = terms_at figures holds need w.keeper rows heads
 
@@ -56,7 +55,7 @@ module _ {P K : Type 0} (figures : P → Figures) (holds : P → List (Row K) �
   pub steps_slide : Steps figures holds need alike (Sliding w) rows heads list (Slide key) (Sliding w') (done_by r) rows' heads' list
   steps_slide = record {
     goes = λ past. elim [
-        [] ↦ λ h. absurd (omega (arith, e.some, h.size))
+      | [] ↦ λ h. absurd (omega (arith, e.some, h.size))
       | oldest ∷ rest ↦ λ h. goes past oldest rest h
     ];
     fits = (list_kept r).0;

@@ -41,8 +41,8 @@ module _ {P K : Type 0} (figures : P → Figures) (holds : P → List (Row K) �
     -- whatever window record and tables are true to: the answer is the one that is due, and the stage is where the account is then
     pub goes : (past window : List K) → TrueTo figures holds (keeper_of s) rows heads past window
         → let t = terms_at figures holds need (keeper_of s) rows heads in
-          let a : Account K = record { state = state_of s; past = past; window = window } in
-          Meets alike t a (length list) (due t a call) (told_as (λ count. take count list') answer) × Follows figures holds need t (next t a call) s' rows' heads'
+        let a : Account K = record { state = state_of s; past = past; window = window } in
+        Meets alike t a (length list) (due t a call) (told_as (λ count. take count list') answer) × Follows figures holds need t (next t a call) s' rows' heads'
     pub fits : Fits (length list) answer
     pub list_after : list' ≡ written list (told_as (λ count. take count list') answer)
     pub rows_rest : drop (needed figures need (keeper_of s)).rows rows' ≡ drop (needed figures need (keeper_of s)).rows rows

@@ -6,9 +6,35 @@ ghost use Rattle.windows.specs.Windows.{Made, PutWhileFilling, Turned};
 
 use crate::fixed::{Filling, Sliding};
 use crate::refusal::{Returned, WindowRefusal};
-use keeper::{Entry, Keeper, Lengths, Record, Refusal, admit_put};
+use keeper::{Entry, Keeper, Lengths, Record, Refusal, Setting, admit_put};
 use likeness::Likeness;
 use tally::{Head, Row};
+
+/// It tells what its keeper tells: setting, puts, how many keys the window holds, and what the tables need.
+impl<P: Record> Record for Filling<P> {
+    ghost figures = { λ w. P.Record.figures w.keeper };
+
+    ghost need = { P.Record.need };
+
+    fn setting(&self) -> Setting {
+        self.keeper.setting()
+    }
+
+    fn puts(&self) -> u32 {
+        self.keeper.puts()
+    }
+
+    fn size(&self) -> u32
+        ensures value { result ≡ (P.Record.figures self.now.keeper).size }
+        ensures within { result ≤ self.now.goal }
+    {
+        self.keeper.size()
+    }
+
+    fn needs(&self) -> Lengths {
+        self.keeper.needs()
+    }
+}
 
 impl<P: Record> Filling<P> {
     /// A window on a keeper, which is to be filled to the size `goal`. The size is from 1 to 2^span − 1, since a full window
@@ -23,14 +49,6 @@ impl<P: Record> Filling<P> {
             });
         }
         Ok(Filling { keeper, goal })
-    }
-
-    /// How many keys the window holds.
-    pub fn size(&self) -> u32
-        ensures value { result ≡ (P.Record.figures self.now.keeper).size }
-        ensures within { result ≤ self.now.goal }
-    {
-        self.keeper.size()
     }
 
     /// The size that the window is to have.

@@ -5,13 +5,25 @@ ghost use Rattle.keeper.specs.Rules.{Counted, Listed};
 ghost use Rattle.windows.specs.Windows.{Slid};
 
 use crate::fixed::Sliding;
-use keeper::{Entry, Keeper, Record, Refusal};
+use keeper::{Entry, Keeper, Lengths, Record, Refusal, Setting};
 use likeness::Likeness;
 use tally::{Head, Row};
 
-impl<P: Record> Sliding<P> {
-    /// How many keys the window holds: always the size that it was to have.
-    pub fn size(&self) -> u32
+/// It tells what its keeper tells. How many keys the window holds is always the size that it was to have.
+impl<P: Record> Record for Sliding<P> {
+    ghost figures = { λ w. P.Record.figures w.keeper };
+
+    ghost need = { P.Record.need };
+
+    fn setting(&self) -> Setting {
+        self.keeper.setting()
+    }
+
+    fn puts(&self) -> u32 {
+        self.keeper.puts()
+    }
+
+    fn size(&self) -> u32
         ensures value { result ≡ (P.Record.figures self.now.keeper).size }
         ensures goal { result ≡ self.now.goal }
         ensures some { 1 ≤ result }
@@ -20,6 +32,12 @@ impl<P: Record> Sliding<P> {
         self.goal
     }
 
+    fn needs(&self) -> Lengths {
+        self.keeper.needs()
+    }
+}
+
+impl<P: Record> Sliding<P> {
     /// A key comes at the window's end, and its oldest goes. Refused where a table is too short or 2^30 puts were accepted.
     pub fn slide<K: Likeness>(
         &mut self,

@@ -1,5 +1,5 @@
 use super::{are_entries, are_rows, fresh, is_exact, key, untouched, used_list, used_rows};
-use keeper::{Keeper, Record, Refusal};
+use keeper::{Keeper, Lengths, Record, Refusal, Setting};
 use likeness::AddressKey;
 use ring::Ring;
 use std::process::Abort;
@@ -32,7 +32,9 @@ fn sliding(rows: &mut [Row<AddressKey>], goal: u32, letters: &[u8]) -> Result<Sl
 fn sizes_at_their_edges(rt: HostRuntime) -> Result<(), Fail> {
     for goal in [1, 2, 14, 15] {
         let window = filling(goal)?;
-        assert_eq!(rt; (window.goal(), window.size()), (goal, 0));
+        assert_eq!(rt; (window.goal(), window.size(), window.puts()), (goal, 0, 0));
+        assert_eq!(rt; window.setting(), Setting::new(1, 4)?);
+        assert_eq!(rt; window.needs(), Lengths { rows: 16, heads: 0 });
     }
     for goal in [0, 16, 17, u32::MAX] {
         let Err(back) = Filling::new(fresh()?, goal) else {
@@ -149,7 +151,11 @@ fn a_slide_with_a_row_too_few(rt: HostRuntime) -> Result<(), Fail> {
     );
     are_rows(&rt, &rows, &before);
     assert_eq!(rt; window.count(&rows, &[], &key(b'A')), Ok((1, 1)));
+    assert_eq!(rt; window.puts(), 3);
     assert_eq!(rt; window.slide(&mut rows, &mut [], key(b'D')), Ok(()));
+    assert_eq!(rt; (window.size(), window.puts()), (3, 4));
+    assert_eq!(rt; window.setting(), Setting::new(1, 4)?);
+    assert_eq!(rt; window.needs(), Lengths { rows: 16, heads: 0 });
     assert_eq!(rt; window.count(&rows, &[], &key(b'A')), Ok((0, 0)));
     Ok(())
 }

@@ -14,4 +14,4 @@ returns-in-Slide g c =
     rw c.in-Slide.is
     (rw c.done.ensures
     (steps_slide g.P.Record.figures g.P.Keeper.holds g.P.Record.need g.K.Likeness.alike c.args.window c.slide-outcome.new.self _ c.slide-outcome.new.rows _ c.slide-outcome.new.heads _ _ _
-      c.slide-outcome.ensures c.slide-outcome.auto.rows c.slide-outcome.auto.heads))
+    c.slide-outcome.ensures c.slide-outcome.auto.rows c.slide-outcome.auto.heads))
