@@ -19,7 +19,7 @@ use Rattle.traces.specs.declared.stage.Stage.TheVariants.{Keeper, Filling, Slidi
 use Rattle.traces.specs.Account.{Account, Terms, figures_of}
 use Rattle.traces.specs.Model.{Meets, asked, due_in, list_at, next_by, told_as, unless_refused}
 use Rattle.traces.specs.Steps.{Fits, Steps, listed_by}
-use Rattle.traces.specs.Traces.{keeper_of, state_of, terms_at, written}
+use Rattle.traces.specs.Stages.{keeper_of, state_of, terms_at, written}
 
 -- The list before and now, and the entries that the keeper means.
 module _ {K : Type 0} (before now entries : List (Entry K)) where
@@ -70,7 +70,7 @@ module _ {P K : Type 0} (figures : P → Figures) (holds : P → List (Row K) �
       → Steps figures holds need alike s rows heads before (ListAt threshold) s (listed_by r) rows heads now
   steps_list bracket listing s rows heads before now threshold r e =
       let p = keeper_of s in
-      let t = terms_at figures holds need p rows heads in
+      let t = terms_at figures need p rows heads in
       let entries = listing p rows heads threshold in
       let after = list_written before now entries r e.written e.kept (short t.need t.lent) (unfit (figures p) threshold) _ refl e.answer in
       record {
@@ -83,6 +83,7 @@ module _ {P K : Type 0} (figures : P → Figures) (holds : P → List (Row K) �
                   (λ fit. e.right (same ∙ fit) past window true_to),
               record { state = refl; terms = refl; true_to = true_to },
             ));
+        kept = λ told. (refl, refl, refl);
         fits = after.0;
         list_after = after.1;
         rows_rest = refl;

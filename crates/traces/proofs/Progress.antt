@@ -13,7 +13,7 @@ use Rattle.traces.specs.declared.stage.Stage.{Stage}
 use Rattle.traces.specs.Account.{Account, State, Terms, blank}
 use Rattle.traces.specs.Model.{Conform, Meets, after, due, next, told_as}
 use Rattle.traces.specs.Steps.{Steps}
-use Rattle.traces.specs.Traces.{Follows, keeper_of, terms_at, written}
+use Rattle.traces.specs.Stages.{Follows, keeper_of, terms_at, written}
 
 module _ {P K : Type 0} (figures : P → Figures) (holds : P → List (Row K) → List Head → List K → List K → Type 0) (need : ℕ → ℕ → Lengths) (alike : K → K → Bool) where
   -- one call, wherever a trace has come to
@@ -25,7 +25,7 @@ module _ {P K : Type 0} (figures : P → Figures) (holds : P → List (Row K) �
       let b : Account K = record { state = state; past = a.past; window = a.window } in
       Meets alike terms b (length list) (due terms b call) (told_as (λ count. take count list') answer) × Follows figures holds need terms (next terms b call) s' rows' heads' in
       subst (λ terms. goes terms a.state) st.terms
-      (subst (goes (terms_at figures holds need (keeper_of s) rows heads)) st.state (e.goes a.past a.window st.true_to))
+      (subst (goes (terms_at figures need (keeper_of s) rows heads)) st.state (e.goes a.past a.window st.true_to))
 
   -- how far a trace has come: `rest` are the calls to come
   pub record SoFar (t : Terms) (calls : List (Call K)) (list : List (Entry K)) (rows : List (Row K)) (heads : List Head) (rest : List (Call K)) (s : Stage P) (answers : List (Answer (List (Entry K)))) (rows' : List (Row K)) (heads' : List Head) (list' : List (Entry K)) : Type 0 where

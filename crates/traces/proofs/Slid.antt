@@ -15,16 +15,16 @@ use Rattle.traces.specs.declared.calls.Call.TheVariants.{Slide}
 use Rattle.traces.specs.declared.stage.Stage.TheVariants.{Sliding}
 use Rattle.traces.specs.Account.{Account, Terms, let_go, sliding, took}
 use Rattle.traces.specs.Model.{Meets, change, due, next, next_by, told_as, unless_refused}
-use Rattle.traces.specs.Steps.{Fits, Steps, done_by}
-use Rattle.traces.specs.Traces.{Follows, terms_at, written}
+use Rattle.traces.specs.Steps.{Fits, Steps, done_by, is_done}
+use Rattle.traces.specs.Stages.{Follows, terms_at, written}
 
 module _ {P K : Type 0} (figures : P → Figures) (holds : P → List (Row K) → List Head → List K → List K → Type 0) (need : ℕ → ℕ → Lengths) (alike : K → K → Bool)
     (w w' : Fixed P) (rows rows' : List (Row K)) (heads heads' : List Head) (list : List (Entry K)) (key : K) (r : Result (Unit {0}) Refusal)
     (e : windows.Slid figures holds need w rows heads key r w' rows' heads') (rows_kept : length rows' ≡ length rows) (heads_kept : length heads' ≡ length heads) where
   abbrev t : Terms
-  t = terms_at figures holds need w.keeper rows heads
+  t = terms_at figures need w.keeper rows heads
 
-  same_terms : is_ok r ≡ true → terms_at figures holds need w'.keeper rows' heads' ≡ t
+  same_terms : is_ok r ≡ true → terms_at figures need w'.keeper rows' heads' ≡ t
   same_terms ok = rw rows_kept (rw heads_kept (rw (e.tells ok) refl))
 
   module _ (past : List K) (oldest : K) (rest : List K) (h : TrueTo figures holds w.keeper rows heads past (oldest ∷ rest)) where
@@ -52,12 +52,17 @@ module _ {P K : Type 0} (figures : P → Figures) (holds : P → List (Row K) �
   list_kept (Ok done) = (tt, refl)
   list_kept (Err refusal) = (tt, refl)
 
+  done_ok : (s : Result (Unit {0}) Refusal) → is_done (done_by s) ≡ is_ok s
+  done_ok (Ok done) = refl
+  done_ok (Err refusal) = refl
+
   pub steps_slide : Steps figures holds need alike (Sliding w) rows heads list (Slide key) (Sliding w') (done_by r) rows' heads' list
   steps_slide = record {
     goes = λ past. elim [
       | [] ↦ λ h. absurd (omega (arith, e.some, h.size))
       | oldest ∷ rest ↦ λ h. goes past oldest rest h
     ];
+    kept = λ told. let kept = e.kept (sym (done_ok r) ∙ told) in (ap Sliding kept.0, kept.1, kept.2);
     fits = (list_kept r).0;
     list_after = (list_kept r).1;
     rows_rest = e.rows_rest;

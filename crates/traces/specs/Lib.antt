@@ -1,4 +1,5 @@
 pub mod Account
 pub mod Model
+pub mod Stages
 pub mod Steps
 pub mod Traces

@@ -1,6 +1,6 @@
 //! Whole traces.
 
-ghost use Rattle.std.specs.Prelude.{◌≡◌, ◌≤◌, IfOk, length, take};
+ghost use Rattle.std.specs.Prelude.{◌≡◌, IfOk, length, take};
 ghost use Rattle.traces.specs.Model.{told_as};
 ghost use Rattle.traces.specs.Steps.{Fits, StepsTelling};
 ghost use Rattle.traces.specs.Traces.{Runs};

@@ -30,34 +30,36 @@ fills_as : (need lent : Lengths) (f : Figures) (goal : ℕ) → f.size < goal �
 fills_as need lent f goal room = grind (arith, nat_tests)
 
 module _ {P K : Type 0} (figures : P → Figures) (holds : P → List (Row K) → List Head → List K → List K → Type 0) (need : ℕ → ℕ → Lengths) (w : Fixed P) (rows rows' : List (Row K)) (heads heads' : List Head) (key : K) (w' : Fixed P) where
-  -- True to a past and a window that are all the keys.
-  resplit : (keys past window : List K) → past ++ window ≡ keys → length keys - w'.goal ≡ length past → TrueTo figures holds w'.keeper rows' heads' past window → HoldsLatest figures holds w' rows' heads' keys
-  resplit keys past window whole here t =
-      let split = seam (length keys - w'.goal) keys past window whole here in
-      subst (λ ks. TrueTo figures holds w'.keeper rows' heads' ks (latest w'.goal keys)) (sym split.0)
-      (subst (λ ks. TrueTo figures holds w'.keeper rows' heads' past ks) (sym split.1) t)
+  module _ (before keys : List K) where
+    -- True to a past and a window that are all the keys.
+    resplit : (all past window : List K) → past ++ window ≡ all → length all - w'.goal ≡ length past → TrueTo figures holds w'.keeper rows' heads' (before ++ past) window → HoldsLatest figures holds w' rows' heads' before all
+    resplit all past window whole here t =
+        let split = seam (length all - w'.goal) all past window whole here in
+        subst (λ ks. TrueTo figures holds w'.keeper rows' heads' (before ++ ks) (latest w'.goal all)) (sym split.0)
+        (subst (λ ks. TrueTo figures holds w'.keeper rows' heads' (before ++ past) ks) (sym split.1) t)
 
-  filled_takes : (figures w.keeper).size < w.goal → PutWhileFilling figures holds need w rows heads key (Ok tt) w' rows' heads' → (keys : List K) → HoldsLatest figures holds w rows heads keys → HoldsLatest figures holds w' rows' heads' (keys ++ key ∷ [])
-  filled_takes room f keys t =
-      let past = earlier w.goal keys in
-      let window = latest w.goal keys in
-      resplit (keys ++ key ∷ []) past (window ++ key ∷ [])
-      (sym (append_assoc past window (key ∷ [])) ∙ ap (λ ks. ks ++ key ∷ []) (take-append-drop (length keys - w.goal) keys))
-      (omega (arith, f.goal, t.size, length_push keys key, length-drop (length keys - w.goal) keys, length-take (length keys - w.goal) keys))
-      (f.takes refl past window t)
+    filled_takes : (figures w.keeper).size < w.goal → PutWhileFilling figures holds need w rows heads key (Ok tt) w' rows' heads' → HoldsLatest figures holds w rows heads before keys → HoldsLatest figures holds w' rows' heads' before (keys ++ key ∷ [])
+    filled_takes room f t =
+        let past = earlier w.goal keys in
+        let window = latest w.goal keys in
+        resplit (keys ++ key ∷ []) past (window ++ key ∷ [])
+        (sym (append_assoc past window (key ∷ [])) ∙ ap (λ ks. ks ++ key ∷ []) (take-append-drop (length keys - w.goal) keys))
+        (omega (arith, f.goal, t.size, length_push keys key, length-drop (length keys - w.goal) keys, length-take (length keys - w.goal) keys))
+        (f.takes refl (before ++ past) window t)
 
-  slid_takes : 1 ≤ w.goal → (figures w.keeper).size ≡ w.goal → Slid figures holds need w rows heads key (Ok tt) w' rows' heads' → (keys : List K) → HoldsLatest figures holds w rows heads keys → HoldsLatest figures holds w' rows' heads' (keys ++ key ∷ [])
-  slid_takes some full s keys t = by (latest w.goal keys) refl
-    where
-      by : (window : List K) → latest w.goal keys ≡ window → HoldsLatest figures holds w' rows' heads' (keys ++ key ∷ [])
-      by [] e = absurd (omega (arith, t.size, ap length e))
-      by (x ∷ xs) e =
-          let past : List K = earlier w.goal keys in
-          let whole : past ++ x ∷ xs ≡ keys = ap (λ ks. past ++ ks) (sym e) ∙ take-append-drop (length keys - w.goal) keys in
-          resplit (keys ++ key ∷ []) (past ++ x ∷ []) (xs ++ key ∷ [])
-          (append_assoc past (x ∷ []) (xs ++ key ∷ []) ∙ sym (append_assoc past (x ∷ xs) (key ∷ [])) ∙ ap (λ ks. ks ++ key ∷ []) whole)
-          (omega (arith, s.goal, t.size, length_push keys key, length_push past x, length-drop (length keys - w.goal) keys, length-take (length keys - w.goal) keys))
-          (s.takes refl past xs x (subst (TrueTo figures holds w.keeper rows heads past) e t))
+    slid_takes : 1 ≤ w.goal → (figures w.keeper).size ≡ w.goal → Slid figures holds need w rows heads key (Ok tt) w' rows' heads' → HoldsLatest figures holds w rows heads before keys → HoldsLatest figures holds w' rows' heads' before (keys ++ key ∷ [])
+    slid_takes some full s t = by (latest w.goal keys) refl
+      where
+        by : (window : List K) → latest w.goal keys ≡ window → HoldsLatest figures holds w' rows' heads' before (keys ++ key ∷ [])
+        by [] e = absurd (omega (arith, t.size, ap length e))
+        by (x ∷ xs) e =
+            let past : List K = earlier w.goal keys in
+            let whole : past ++ x ∷ xs ≡ keys = ap (λ ks. past ++ ks) (sym e) ∙ take-append-drop (length keys - w.goal) keys in
+            resplit (keys ++ key ∷ []) (past ++ x ∷ []) (xs ++ key ∷ [])
+            (append_assoc past (x ∷ []) (xs ++ key ∷ []) ∙ sym (append_assoc past (x ∷ xs) (key ∷ [])) ∙ ap (λ ks. ks ++ key ∷ []) whole)
+            (omega (arith, s.goal, t.size, length_push keys key, length_push past x, length-drop (length keys - w.goal) keys, length-take (length keys - w.goal) keys))
+            (subst (λ ks. TrueTo figures holds w'.keeper rows' heads' ks (xs ++ key ∷ [])) (append_assoc before past (x ∷ []))
+            (s.takes refl (before ++ past) xs x (subst (TrueTo figures holds w.keeper rows heads (before ++ past)) e t)))
 
 -- A window that still fills has one key more, and one that slides as many as it had.
 grows : (f : Figures) (goal : ℕ) → f.size < goal → grown f ≡ moved_on goal f
@@ -76,7 +78,7 @@ module _ {P K : Type 0} (figures : P → Figures) (holds : P → List (Row K) �
         answer = sym (fills_as (needed figures need w.keeper) (lengths rows heads) (figures w.keeper) w.goal (settled.fills refl)) ∙ sym f.answer;
         tells = f.tells refl ∙ grows (figures w.keeper) w.goal (settled.fills refl);
         goal = f.goal;
-        takes = filled_takes figures holds need w rows rows' heads heads' key w' (settled.fills refl) f;
+        takes = λ before keys. filled_takes figures holds need w rows rows' heads heads' key w' before keys (settled.fills refl) f;
         rows_rest = f.rows_rest;
         heads_rest = f.heads_rest;
       }
@@ -84,7 +86,7 @@ module _ {P K : Type 0} (figures : P → Figures) (holds : P → List (Row K) �
         answer = sym f.answer;
         tells = f.tells refl ∙ stays (figures w.keeper) w.goal (settled.full refl);
         goal = f.goal;
-        takes = slid_takes figures holds need w rows rows' heads heads' key w' settled.some (settled.full refl) f;
+        takes = λ before keys. slid_takes figures holds need w rows rows' heads heads' key w' before keys settled.some (settled.full refl) f;
         rows_rest = f.rows_rest;
         heads_rest = f.heads_rest;
       }

@@ -73,7 +73,7 @@ module _ (kinds : Kept) (set : IsSet kinds) where
   takes_one key after heads' accepted = record {
     counts = λ few. ap (λ f. f.puts) accepted.tells;
     holds_more = λ few text values read right.
-        let t = accepted.takes values right.holds in
+        let t = accepted.takes [] values right.holds in
         record {
           goal = accepted.goal ∙ right.goal;
           holds = record { held = t.held; size = t.size; puts = t.puts };

@@ -58,5 +58,5 @@ IsAscii key = AllByRecursion (λ b. b < 128) key.bytes
 -- A counter is right for keys if its window holds the latest of them, and all can be printed.
 pub record IsRightFor (kinds : Kept) (keys : List AddressKey) : Type 0 where
   pub goal : kinds.window.goal ≡ most_keys
-  pub holds : HoldsLatest (λ s. s) HoldsWindow kinds.window kinds.rows [] keys
+  pub holds : HoldsLatest (λ s. s) HoldsWindow kinds.window kinds.rows [] [] keys
   pub ascii : All IsAscii keys

@@ -24,9 +24,9 @@ abbrev pub moved_on : ℕ → Figures → Figures
 moved_on goal f = record { accuracy = f.accuracy; span = f.span; puts = f.puts + 1; size = min (f.size + 1) goal }
 
 module _ {P K : Type 0} (figures : P → Figures) (holds : P → List (Row K) → List Head → List K → List K → Type 0) where
-  -- Of all the keys that came, keeper and tables are true to the latest.
-  abbrev pub HoldsLatest : Fixed P → List (Row K) → List Head → List K → Type 0
-  HoldsLatest w rows heads keys = TrueTo figures holds w.keeper rows heads (earlier w.goal keys) (latest w.goal keys)
+  -- Of all the keys that came to the window, keeper and tables are true to the latest; `before` had come to the keeper then.
+  abbrev pub HoldsLatest : Fixed P → List (Row K) → List Head → List K → List K → Type 0
+  HoldsLatest w rows heads before keys = TrueTo figures holds w.keeper rows heads (before ++ earlier w.goal keys) (latest w.goal keys)
 
   module _ (need : ℕ → ℕ → Lengths) where
     -- A key that was taken.
@@ -34,7 +34,7 @@ module _ {P K : Type 0} (figures : P → Figures) (holds : P → List (Row K) �
       pub answer : slide_answer (needed figures need w.keeper) (lengths rows heads) (figures w.keeper) ≡ Ok tt
       pub tells : figures w'.keeper ≡ moved_on w.goal (figures w.keeper)
       pub goal : w'.goal ≡ w.goal
-      pub takes : (keys : List K) → HoldsLatest w rows heads keys → HoldsLatest w' rows' heads' (keys ++ key ∷ [])
+      pub takes : (before keys : List K) → HoldsLatest w rows heads before keys → HoldsLatest w' rows' heads' before (keys ++ key ∷ [])
       pub rows_rest : drop (needed figures need w.keeper).rows rows' ≡ drop (needed figures need w.keeper).rows rows
       pub heads_rest : drop (needed figures need w.keeper).heads heads' ≡ drop (needed figures need w.keeper).heads heads
 

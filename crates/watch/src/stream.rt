@@ -64,6 +64,6 @@ pub fn run<C: Counter, R: Read, W: Write>(
     }
     Err(io::Error::new(
         ErrorKind::TimedOut,
-        "the input did not end within 2^64 pieces",
+        "the input did not end within 2^64 - 1 pieces",
     ))
 }

@@ -27,17 +27,17 @@ may_stand f goal = nat_le 1 goal && nat_lt goal (2 ^ f.span) && f.size == 0
 abbrev pub is_full : Figures → ℕ → Bool
 is_full f goal = f.size == goal
 
--- what a put answers while the window is filled, by what is needed of the tables and what is lent
-abbrev pub fill_answer : Lengths → Lengths → Figures → ℕ → Result (Unit {0}) Refusal
-fill_answer need lent f goal =
+-- what a key that comes to a window is answered, by what is needed of the tables and what is lent; `rest` is the answer of its state
+abbrev pub come_answer : Lengths → Lengths → Figures → Result (Unit {0}) Refusal → Result (Unit {0}) Refusal
+come_answer need lent f rest =
     if short need lent then Err ShortTable
     else if nat_le most_puts f.puts then Err Spent
-    else if is_full f goal then Err Full
-    else Ok tt
+    else rest
+
+-- what a put answers while the window is being filled
+abbrev pub fill_answer : Lengths → Lengths → Figures → ℕ → Result (Unit {0}) Refusal
+fill_answer need lent f goal = come_answer need lent f (if is_full f goal then Err Full else Ok tt)
 
 -- what a slide answers
 abbrev pub slide_answer : Lengths → Lengths → Figures → Result (Unit {0}) Refusal
-slide_answer need lent f =
-    if short need lent then Err ShortTable
-    else if nat_le most_puts f.puts then Err Spent
-    else Ok tt
+slide_answer need lent f = come_answer need lent f (Ok tt)

@@ -1,10 +1,11 @@
-use super::{are_entries, are_rows, key, untouched, used_list, used_rows};
+use super::{are_entries, are_rows, fresh, key, untouched, used_list, used_rows};
 use keeper::{Entry, Record, Setting};
 use likeness::{AddressKey, true_count};
 use ring::Ring;
 use std::alloc::{AllocError, Global};
 use std::process::Abort;
 use std::test::Fail;
+use tally::Row;
 use traces::{Answer, Call, Stage, Trace, run_trace};
 
 // What an answer has to be; exact counts, since the keeper is a ring.
@@ -42,6 +43,18 @@ fn are_answers(
     }
 }
 
+// A trace of a ring of accuracy 1 and span 4, which needs 16 rows.
+fn run(
+    heap: Global,
+    rows: &mut [Row<AddressKey>],
+    list: &mut [Entry<AddressKey>],
+    calls: &[Call<AddressKey>],
+) -> Result<Trace<AddressKey, Ring>, Fail> {
+    let setting = Setting::new(1, 4)?;
+    let trace = run_trace(setting, rows, &mut [], list, calls, heap)?;
+    Ok(trace)
+}
+
 // The example of the documents.
 #[test]
 fn a_trace_through_all_states(rt: HostRuntime) -> Result<(), Fail> {
@@ -76,15 +89,7 @@ fn a_trace_through_all_states(rt: HostRuntime) -> Result<(), Fail> {
     }
     let mut rows = used_rows();
     let mut list = used_list();
-    let setting = Setting::new(1, 4)?;
-    let Trace { stage, answers } = run_trace::<AddressKey, Ring>(
-        setting,
-        &mut rows,
-        &mut [],
-        &mut list,
-        &calls,
-        rt.alloc(),
-    )?;
+    let Trace { stage, answers } = run(rt.alloc(), &mut rows, &mut list, &calls)?;
     are_answers(&rt, &answers, &wanted);
     are_entries(&rt, &list[..1], &[(b'C', 2)]);
     untouched(&rt, &list[1..]);
@@ -114,15 +119,7 @@ fn tables_of_a_row_too_few(rt: HostRuntime) -> Result<(), Fail> {
         calls.push(*call)?;
     }
     let mut rows = [used_rows()[0]; 15];
-    let setting = Setting::new(1, 4)?;
-    let Trace { stage, answers } = run_trace::<AddressKey, Ring>(
-        setting,
-        &mut rows,
-        &mut [],
-        &mut [],
-        &calls,
-        rt.alloc(),
-    )?;
+    let Trace { stage, answers } = run(rt.alloc(), &mut rows, &mut [], &calls)?;
     are_answers(&rt, &answers, &wanted);
     are_rows(&rt, &rows, &used_rows()[..15]);
     assert!(rt; matches!(&stage, Stage::Filling(_)));
@@ -138,15 +135,7 @@ fn a_list_without_room(rt: HostRuntime) -> Result<(), Fail> {
         Call::Count(key(b'B')),
     ];
     let mut rows = used_rows();
-    let setting = Setting::new(1, 4)?;
-    let Trace { stage, answers } = run_trace::<AddressKey, Ring>(
-        setting,
-        &mut rows,
-        &mut [],
-        &mut [],
-        &calls,
-        rt.alloc(),
-    )?;
+    let Trace { stage, answers } = run(rt.alloc(), &mut rows, &mut [], &calls)?;
     assert_eq!(rt; answers.len(), 4);
     is_answer(&rt, &answers[0], Wanted::Listed(&[]));
     is_answer(&rt, &answers[2], Wanted::Refused(5));
@@ -155,6 +144,24 @@ fn a_list_without_room(rt: HostRuntime) -> Result<(), Fail> {
         return Err(Fail::new("another state"));
     };
     assert_eq!(rt; (ring.puts(), ring.size()), (1, 1));
+    Ok(())
+}
+
+#[test]
+fn one_call_at_a_time(rt: HostRuntime) -> Result<(), Fail> {
+    let mut rows = used_rows();
+    let mut list = used_list();
+    let mut stage = Stage::Keeper(fresh()?);
+    for letter in b"ABA" {
+        let (next, answer) = stage.step(&mut rows, &mut [], &mut list, Call::Put(key(*letter)));
+        assert!(rt; matches!(&answer, Answer::Done));
+        stage = next;
+    }
+    let (stage, answer) = stage.step(&mut rows, &mut [], &mut list, Call::List(2));
+    assert!(rt; matches!(&answer, Answer::Listed(1)));
+    are_entries(&rt, &list[..1], &[(b'A', 2)]);
+    untouched(&rt, &list[1..]);
+    assert!(rt; matches!(&stage, Stage::Keeper(_)));
     Ok(())
 }
 
@@ -236,15 +243,7 @@ fn long_script(heap: Global) -> Result<Script, AllocError> {
 fn counts_of_a_long_trace(rt: HostRuntime) -> Result<(), Fail> {
     let script = long_script(rt.alloc())?;
     let mut rows = used_rows();
-    let setting = Setting::new(1, 4)?;
-    let Trace { stage, answers } = run_trace::<AddressKey, Ring>(
-        setting,
-        &mut rows,
-        &mut [],
-        &mut [],
-        &script.calls,
-        rt.alloc(),
-    )?;
+    let Trace { stage, answers } = run(rt.alloc(), &mut rows, &mut [], &script.calls)?;
     assert_eq!(rt; answers.len(), script.counts.len());
     for (answer, wanted) in answers.iter().zip(&script.counts) {
         match (answer, wanted) {

@@ -3,7 +3,7 @@ use Rattle.std.proofs.lemmas.Grind.{common_steps}
 use Rattle.std.proofs.lemmas.List.{map-append}
 use Rattle.traces.specs.declared.stage.Stage.TheVariants.{Keeper}
 use Rattle.traces.specs.Model.{told_as}
-use Rattle.traces.specs.Traces.{terms_of}
+use Rattle.traces.specs.Stages.{terms_of}
 use Rattle.traces.proofs.Progress.{SoFar, so_far_end, so_far_start, so_far_step}
 use Rattle.traces.proofs.run.run_trace.Goals as goal
 
@@ -15,7 +15,7 @@ loop-call-init g c =
 
 pub loop-call-preserved : goal.loop-call-preserved
 loop-call-preserved g c =
-    let t = terms_of g.P.Record.figures g.P.Keeper.holds g.P.Record.need c.args.setting.accuracy c.args.setting.span c.args.rows.now c.args.heads.now in
+    let t = terms_of g.P.Record.need c.args.setting.accuracy c.args.setting.span c.args.rows.now c.args.heads.now in
     let so_far = SoFar g.P.Record.figures g.P.Keeper.holds g.P.Record.need g.K.Likeness.alike t c.args.calls.now c.args.list.now c.args.rows.now c.args.heads.now in
     let answers = map (told_as (λ entries. entries.items)) c.loop-call.answers.items in
     let split : drop c.loop-call.call-index c.args.calls.now ≡ c.call-item.result ∷ drop (c.loop-call.call-index + 1) c.args.calls.now = grind (arith, common_steps) in
@@ -27,7 +27,7 @@ loop-call-preserved g c =
 
 pub returns : goal.returns
 returns g c =
-    let t = terms_of g.P.Record.figures g.P.Keeper.holds g.P.Record.need c.args.setting.accuracy c.args.setting.span c.args.rows.now c.args.heads.now in
+    let t = terms_of g.P.Record.need c.args.setting.accuracy c.args.setting.span c.args.rows.now c.args.heads.now in
     let so_far = SoFar g.P.Record.figures g.P.Keeper.holds g.P.Record.need g.K.Likeness.alike t c.args.calls.now c.args.list.now c.args.rows.now c.args.heads.now in
     let h = c.loop-call.invariant in
     let all = so_far_end g.P.Record.figures g.P.Keeper.holds g.P.Record.need g.K.Likeness.alike t c.args.calls.now c.args.list.now c.args.rows.now c.args.heads.now c.loop-call.stage
