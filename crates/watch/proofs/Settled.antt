@@ -22,7 +22,7 @@ use Rattle.windows.specs.Refusals.{slide_answer}
 use Rattle.watch.specs.Counters.{Takes}
 use Rattle.watch.specs.Latest.{Accepted, Rejected}
 use Rattle.watch.proofs.Addresses.{read_ascii}
-use Rattle.watch.specs.Kinds.{IsAscii, IsRightFor, IsSet, Kept, key_of, kinds_in, threshold_of, most_keys}
+use Rattle.watch.specs.Kinds.{IsAscii, IsRightFor, IsSet, WindowInRows, key_of, kinds_in, threshold_of, most_keys}
 use Rattle.watch.specs.Report.{most_lines}
 
 filter_fewer : {X : Type 0} (test : X → Bool) (xs : List X) → length (filter test xs) ≤ length xs
@@ -53,7 +53,7 @@ kinds_fewer n s rows =
 pub rounded_up : (n : ℕ) → max (n / 8 + min 1 (n % 8)) 1 ≡ threshold_of n
 rounded_up n = let up : n / 8 + min 1 (n % 8) ≡ (n + 7) / 8 = omega arith in ap (λ m. max m 1) up
 
-module _ (kinds : Kept) (set : IsSet kinds) where
+module _ (kinds : WindowInRows) (set : IsSet kinds) where
   -- The table is long enough.
   enough : short (needed (λ s. s) need_of kinds.window.keeper) (lengths kinds.rows []) ≡ false
   enough = rw set.span (rw set.rows refl)
@@ -62,13 +62,13 @@ module _ (kinds : Kept) (set : IsSet kinds) where
   pub slides : kinds.window.keeper.puts < most_lines → slide_answer (needed (λ s. s) need_of kinds.window.keeper) (lengths kinds.rows []) kinds.window.keeper ≡ Ok tt
   slides few = rw enough (grind (arith, nat_tests))
 
-  pub takes_none : (key : AddressKey) (after : Kept) (back : Returned (Fixed Figures)) (rows' : List (Row AddressKey)) (heads' : List Head)
+  pub takes_none : (key : AddressKey) (after : WindowInRows) (back : Returned (Fixed Figures)) (rows' : List (Row AddressKey)) (heads' : List Head)
       → Rejected {K = AddressKey} (λ s. s) HoldsWindow need_of kinds.window kinds.rows [] back rows' heads' → Takes key_of (λ k. k.window.keeper.puts) IsRightFor kinds key after
   takes_none key after back rows' heads' rejected =
       let never : kinds.window.keeper.puts < most_lines → ⊥ = λ few. let clash = sym (slides few) ∙ rejected.answer in cc in
       record { counts = λ few. absurd (never few); holds_more = λ few text values read right. absurd (never few) }
 
-  pub takes_one : (key : AddressKey) (after : Kept) (heads' : List Head)
+  pub takes_one : (key : AddressKey) (after : WindowInRows) (heads' : List Head)
       → Accepted (λ s. s) HoldsWindow need_of kinds.window kinds.rows [] key after.window after.rows heads' → Takes key_of (λ k. k.window.keeper.puts) IsRightFor kinds key after
   takes_one key after heads' accepted = record {
     counts = λ few. ap (λ f. f.puts) accepted.tells;

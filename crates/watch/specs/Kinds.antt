@@ -39,12 +39,12 @@ abbrev pub kinds_text : List AddressKey → List ℕ
 kinds_text keys = let window = latest most_keys keys in flat_map kind_text (kinds_in (length window) window)
 
 -- A counter of kinds: its window, and the rows in which that lies.
-pub record Kept : Type 0 where
+pub record WindowInRows : Type 0 where
   pub window : Fixed Figures
   pub rows : List (Row AddressKey)
 
 -- The window is of accuracy 3 and span 6, and of the right size, and so are the rows.
-pub record IsSet (kinds : Kept) : Type 0 where
+pub record IsSet (kinds : WindowInRows) : Type 0 where
   pub accuracy : kinds.window.keeper.accuracy ≡ 3
   pub span : kinds.window.keeper.span ≡ 6
   pub goal : kinds.window.goal ≡ most_keys
@@ -56,7 +56,7 @@ abbrev pub IsAscii : AddressKey → Type 0
 IsAscii key = AllByRecursion (λ b. b < 128) key.bytes
 
 -- A counter is right for keys if its window holds the latest of them, and all can be printed.
-pub record IsRightFor (kinds : Kept) (keys : List AddressKey) : Type 0 where
+pub record IsRightFor (kinds : WindowInRows) (keys : List AddressKey) : Type 0 where
   pub goal : kinds.window.goal ≡ most_keys
   pub holds : HoldsLatest (λ s. s) HoldsWindow kinds.window kinds.rows [] [] keys
   pub ascii : All IsAscii keys

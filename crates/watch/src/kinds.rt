@@ -40,9 +40,9 @@ pub struct Kinds {
 }
 
 impl Model for Kinds {
-    ghost use Rattle.watch.specs.Kinds.{IsSet, Kept};
+    ghost use Rattle.watch.specs.Kinds.{IsSet, WindowInRows};
 
-    ghost Value = { Kept };
+    ghost Value = { WindowInRows };
 
     ghost view = { λ kinds. record { window = kinds.window; rows = kinds.rows } };
 

@@ -15,7 +15,7 @@ pub enum WindowRefusal {
     Unfit,
     /// The window has not its size yet.
     Unfilled,
-    /// Its keeper's refusal, or one of the same kind.
+    /// What a keeper refuses too; a window that has its size refuses a put as a full keeper does.
     Keeper(Refusal),
 }
 

@@ -1,12 +1,12 @@
 use Rattle.std.proofs.Common.{sym}
-use Rattle.watch.specs.Kinds.{Kept}
+use Rattle.watch.specs.Kinds.{WindowInRows}
 use Rattle.watch.proofs.Settled.{takes_none, takes_one}
 use Rattle.watch.proofs.kinds.KindsCounter.take.Goals as goal
 use Rattle.watch.proofs.kinds.KindsCounter.take.Goals.{in-Ok, in-Err}
 
 pub returns : goal.returns
 returns c =
-    let kinds : Kept = record { window = c.self.inside.window; rows = c.self.inside.rows } in
+    let kinds : WindowInRows = record { window = c.self.inside.window; rows = c.self.inside.rows } in
     let same = c.replace-window.ensures.value in
     rw (sym c.self.view_is)
     (elim c.match-take.branch [
