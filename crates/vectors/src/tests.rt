@@ -1,7 +1,7 @@
 //! Keys, rings and comparisons that the tests share.
 
-mod traces;
-mod windows;
+mod fixed_windows;
+mod whole_traces;
 
 use keeper::{Entry, Keeper, Refusal, Setting};
 use likeness::{AddressKey, true_count};
