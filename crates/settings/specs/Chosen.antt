@@ -1,4 +1,4 @@
--- What is chosen of a keeper before it is made. Assumes nothing.
+-- What a setting is made of. Assumes nothing.
 use Rattle.std.specs.Prelude.{ℕ, ◌+◌, ◌≤◌}
 
 -- how exact it is, and how long a window it can hold

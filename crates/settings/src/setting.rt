@@ -1,8 +1,8 @@
-//! What a keeper is made from.
+//! What a window counter is made from.
 
 ghost use Rattle.std.specs.Prelude.{◌≡◌, ◌+◌, ◌≤◌};
 
-use crate::refusal::Refusal;
+use crate::refusal::SettingRefusal;
 use std::marker::Model;
 
 const LEAST_ACCURACY: u32 = 1;
@@ -13,7 +13,7 @@ const LEAST_MARGIN: u32 = 3;
 
 const MOST_SPAN: u32 = 20;
 
-/// How exact a keeper is, and how long a window it can hold.
+/// How exact a window counter is, and how long a window it can hold.
 ///
 /// At accuracy a the two ends of a count lie less than 1 / 2^a of the window's size apart (in an empty window, both are 0); at
 /// span K the window holds up to 2^K keys. Whatever setting there is has both in range, so no later call looks again.
@@ -24,7 +24,7 @@ pub struct Setting {
 }
 
 impl Model for Setting {
-    ghost use Rattle.keeper.specs.Chosen.{Chosen, IsInRange};
+    ghost use Rattle.settings.specs.Chosen.{Chosen, IsInRange};
 
     ghost Value = { Chosen };
 
@@ -36,17 +36,17 @@ impl Model for Setting {
 }
 
 impl Setting {
-    ghost use Rattle.keeper.specs.Refusals.{Made};
+    ghost use Rattle.settings.specs.Refusals.{Made};
 
     /// A setting of accuracy 1 to 6 and span accuracy + 3 to 20; the accuracy is looked at first.
-    pub fn new(accuracy: u32, span: u32) -> Result<Setting, Refusal>
+    pub fn new(accuracy: u32, span: u32) -> Result<Setting, SettingRefusal>
         ensures { Made accuracy span result }
     {
         if !(LEAST_ACCURACY..=MOST_ACCURACY).contains(&accuracy) {
-            return Err(Refusal::Accuracy);
+            return Err(SettingRefusal::Accuracy);
         }
         if !(accuracy + LEAST_MARGIN..=MOST_SPAN).contains(&span) {
-            return Err(Refusal::Span);
+            return Err(SettingRefusal::Span);
         }
         Ok(Setting { accuracy, span })
     }
