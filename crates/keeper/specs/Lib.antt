@@ -1,4 +1,3 @@
-pub mod Chosen
 pub mod Figures
 pub mod Listing
 pub mod Refusals

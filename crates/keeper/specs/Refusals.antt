@@ -1,17 +1,13 @@
 -- Which calls are refused, and as what: for code and promises alike. Where several reasons hold, the lowest number is told, but for a list that is too short, which comes last. Assumes nothing.
-use Rattle.std.specs.Prelude.{◌≡◌, ℕ, ◌+◌, ◌*◌, ◌^◌, Bool, if◌then◌else◌, ◌||◌, List, ◌++◌, Some, None, Ok, Err, Option, Result, ◌==◌, nat_le, nat_lt, codes, decimal}
+use Rattle.std.specs.Prelude.{ℕ, ◌*◌, ◌^◌, Bool, if◌then◌else◌, ◌||◌, List, ◌++◌, Ok, Err, Result, ◌==◌, nat_le, nat_lt, codes, decimal}
 use Rattle.keeper.specs.declared.lengths.Lengths.{Lengths}
 use Rattle.keeper.specs.declared.refusal.Refusal.{Refusal}
-use Rattle.keeper.specs.declared.refusal.Refusal.TheVariants.{Accuracy, Span, ShortTable, ShortList, Spent, Full, Vacant, Threshold}
-use Rattle.keeper.specs.declared.setting.Setting.{Setting}
-use Rattle.keeper.specs.Chosen.{least_accuracy, most_accuracy, least_margin, most_span}
+use Rattle.keeper.specs.declared.refusal.Refusal.TheVariants.{ShortTable, ShortList, Spent, Full, Vacant, Threshold}
 use Rattle.keeper.specs.Figures.{Figures, most_puts}
 use Rattle.keeper.specs.Tables.{short}
 
 -- the number of each refusal
 abbrev pub number_of : Refusal → ℕ
-number_of Accuracy = 1
-number_of Span = 2
 number_of ShortTable = 4
 number_of ShortList = 5
 number_of Spent = 6
@@ -22,18 +18,6 @@ number_of Threshold = 10
 -- a refusal in words: `refused NUMBER`
 abbrev pub refusal_text : Refusal → List ℕ
 refusal_text refusal = codes "refused " ++ decimal (number_of refusal)
-
--- why there is no setting of accuracy a and span k, if there is none
-abbrev pub unset : ℕ → ℕ → Option Refusal
-unset a k =
-    if nat_lt a least_accuracy || nat_lt most_accuracy a then Some Accuracy
-    else if nat_lt k (a + least_margin) || nat_lt most_span k then Some Span
-    else None
-
--- a setting is made of just these two numbers, unless there is a reason why not
-abbrev pub Made : ℕ → ℕ → Result Setting Refusal → Type 0
-Made a k (Ok s) = (unset a k ≡ None) × (s.accuracy ≡ a) × (s.span ≡ k)
-Made a k (Err e) = unset a k ≡ Some e
 
 -- a threshold that is not answered: 0, or one that is less than the window's size / 2^accuracy
 abbrev pub unfit : Figures → ℕ → Bool

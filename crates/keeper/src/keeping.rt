@@ -12,8 +12,8 @@ ghost use Rattle.keeper.specs.Rules.{Counted, Dropped, Fresh, Listed, Put};
 use crate::entry::Entry;
 use crate::lengths::Lengths;
 use crate::refusal::Refusal;
-use crate::setting::Setting;
 use likeness::Likeness;
+use settings::Setting;
 use tally::{Head, Row};
 
 /// A keeper's own numbers, whatever its keys are.

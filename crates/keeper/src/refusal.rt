@@ -6,13 +6,9 @@ ghost use Rattle.keeper.specs.Refusals.{number_of, refusal_text};
 use std::error::Error;
 use std::fmt;
 
-/// Why a setting or a keeper refuses a call, by number. A refused call changes nothing.
+/// Why a keeper refuses a call, by number. A refused call changes nothing.
 #[derive(Clone, Copy, PartialEq, Eq, Debug)]
 pub enum Refusal {
-    /// The accuracy is not from 1 to 6.
-    Accuracy = 1,
-    /// The span is not from the accuracy + 3 to 20.
-    Span = 2,
     /// The row table or the head table is shorter than the keeper needs.
     ShortTable = 4,
     /// The list has fewer places than there are entries to write.

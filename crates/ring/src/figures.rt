@@ -1,6 +1,6 @@
 //! The ring's own numbers.
 
-use keeper::Setting;
+use settings::Setting;
 use std::marker::Model;
 
 /// The keeper that stores its whole window, so that it counts exactly. The key of put number m, from 0 on, lies in row

@@ -6,8 +6,9 @@ ghost use Rattle.keeper.specs.Rules.{Put};
 ghost use Rattle.ring.specs.Rings.{exactly, HoldsWindow, listing_of, need_of, stored, window_of};
 
 use crate::figures::Ring;
-use keeper::{Entry, Keeper, Lengths, Record, Refusal, Setting};
+use keeper::{Entry, Keeper, Lengths, Record, Refusal};
 use likeness::Likeness;
+use settings::Setting;
 use tally::{Head, Row};
 
 impl Record for Ring {

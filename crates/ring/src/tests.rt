@@ -1,6 +1,7 @@
 use super::*;
-use keeper::{Entry, Keeper, Lengths, Record, Refusal, Setting};
+use keeper::{Entry, Keeper, Lengths, Record, Refusal};
 use likeness::{AddressKey, true_count};
+use settings::{Setting, SettingRefusal};
 use std::process::Abort;
 use std::test::Fail;
 use tally::{Head, Row};
@@ -32,7 +33,7 @@ fn used_list() -> [Entry<AddressKey>; 5] {
 }
 
 // Accuracy 3, and a window of up to 64 keys.
-fn fresh() -> Result<Ring, Refusal> {
+fn fresh() -> Result<Ring, SettingRefusal> {
     let setting = Setting::new(3, 6)?;
     Ok(<Ring as Keeper<AddressKey>>::fresh(setting))
 }
@@ -50,7 +51,7 @@ fn drop_oldest<P: Keeper<AddressKey>>(keeper: &mut P) -> Result<(), Refusal> {
 }
 
 // A ring whose window has gone on to the last rows of the table, and is empty.
-fn moved_on(rows: &mut [Row<AddressKey>]) -> Result<Ring, Refusal> {
+fn moved_on(rows: &mut [Row<AddressKey>]) -> Result<Ring, Fail> {
     let mut ring = fresh()?;
     for _ in 0..61 {
         put(&mut ring, rows, b'X')?;

@@ -7,8 +7,9 @@ ghost use Rattle.traces.specs.Traces.{Runs};
 
 use crate::calls::{Answer, Call};
 use crate::stage::{Stage, Trace};
-use keeper::{Entry, Keeper, Setting};
+use keeper::{Entry, Keeper};
 use likeness::Likeness;
+use settings::Setting;
 use std::alloc::{AllocError, Global};
 use tally::{Head, Row};
 

@@ -3,9 +3,10 @@
 mod fixed_windows;
 mod whole_traces;
 
-use keeper::{Entry, Keeper, Refusal, Setting};
+use keeper::{Entry, Keeper};
 use likeness::{AddressKey, true_count};
 use ring::Ring;
+use settings::{Setting, SettingRefusal};
 use std::process::Abort;
 use tally::Row;
 
@@ -35,7 +36,7 @@ fn used_list() -> [Entry<AddressKey>; 4] {
 }
 
 // Accuracy 1, and a window of up to 16 keys.
-fn fresh() -> Result<Ring, Refusal> {
+fn fresh() -> Result<Ring, SettingRefusal> {
     let setting = Setting::new(1, 4)?;
     Ok(<Ring as Keeper<AddressKey>>::fresh(setting))
 }

@@ -11,10 +11,11 @@ ghost use Rattle.watch.specs.Printed.{kind_text};
 
 use crate::counter::Counter;
 use crate::latest::Latest;
-use keeper::{Entry, Keeper, Setting};
+use keeper::{Entry, Keeper};
 use likeness::AddressKey;
 use ring::Ring;
 use sentences::{Address, SentenceError, read_address};
+use settings::Setting;
 use std::alloc::AllocError;
 use std::marker::Model;
 use std::mem;

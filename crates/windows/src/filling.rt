@@ -6,8 +6,9 @@ ghost use Rattle.windows.specs.Windows.{Made, PutWhileFilling, Turned};
 
 use crate::fixed::{Filling, Sliding};
 use crate::refusal::{Returned, WindowRefusal};
-use keeper::{Entry, Keeper, Lengths, Record, Refusal, Setting, admit_put};
+use keeper::{Entry, Keeper, Lengths, Record, Refusal, admit_put};
 use likeness::Likeness;
+use settings::Setting;
 use tally::{Head, Row};
 
 /// It tells what its keeper tells: setting, puts, how many keys the window holds, and what the tables need.

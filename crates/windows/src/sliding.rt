@@ -5,8 +5,9 @@ ghost use Rattle.keeper.specs.Rules.{Counted, Listed};
 ghost use Rattle.windows.specs.Windows.{Slid};
 
 use crate::fixed::Sliding;
-use keeper::{Entry, Keeper, Lengths, Record, Refusal, Setting};
+use keeper::{Entry, Keeper, Lengths, Record, Refusal};
 use likeness::Likeness;
+use settings::Setting;
 use tally::{Head, Row};
 
 /// It tells what its keeper tells. How many keys the window holds is always the size that it was to have.

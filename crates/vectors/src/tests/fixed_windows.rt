@@ -1,7 +1,8 @@
 use super::{are_entries, are_rows, fresh, is_exact, key, untouched, used_list, used_rows};
-use keeper::{Keeper, Lengths, Record, Refusal, Setting};
+use keeper::{Keeper, Lengths, Record, Refusal};
 use likeness::AddressKey;
 use ring::Ring;
+use settings::Setting;
 use std::process::Abort;
 use std::test::Fail;
 use tally::Row;

@@ -1,7 +1,8 @@
 use super::{are_entries, are_rows, fresh, key, untouched, used_list, used_rows};
-use keeper::{Entry, Record, Setting};
+use keeper::{Entry, Record};
 use likeness::{AddressKey, true_count};
 use ring::Ring;
+use settings::Setting;
 use std::alloc::{AllocError, Global};
 use std::process::Abort;
 use std::test::Fail;
