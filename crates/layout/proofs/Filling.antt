@@ -1,0 +1,125 @@
+-- The slots fill a table: slot after slot, level after level and scale after scale. Assumes nothing.
+use Rattle.std.proofs.Common.{◌≡◌, ℕ, zero, suc, ◌+◌, ◌-◌, ◌*◌, ◌/◌, ◌%◌, ◌<◌, ◌≤◌, ◌⊎◌, ⊎_elim, subst, ap, arith, suc-mul, mul-le-mul_right, div-add-mod', mul-zero, mul-one}
+use Rattle.std.proofs.lemmas.Bool.{cases_order, cases_lt, cases_eq}
+use Rattle.std.proofs.lemmas.Nat.{div_below, mod_below}
+use Rattle.layout.specs.Slots.{Shape, slots_at, rows_at, places_below, heads_below, scale_rows, scale_heads}
+use Rattle.layout.specs.Laws.{HasPlace, Fill, FillRows, FillHeads}
+use Rattle.layout.proofs.Closed.{rows_of_scale, heads_of_scale}
+
+-- part i of n parts ends by their end
+pub part_end : (i n width : ℕ) → i < n → i * width + width ≤ n * width
+part_end i n width h = omega (arith, suc-mul i width, mul-le-mul_right {m = suc i} {n = n} width h)
+
+module _ (each : ℕ → ℕ) (top : ℕ) where
+  pub below_mono : (i j : ℕ) → i ≤ j → places_below each top i ≤ places_below each top j
+  below_mono i zero h = let e : i ≡ 0 = omega arith in rw e (omega arith)
+  below_mono i (suc j) h = ⊎_elim
+      (λ (e : i ≡ suc j). rw e (omega arith))
+      (λ (o : (i < suc j) ⊎ (suc j < i)). omega (arith, below_mono i j (⊎_elim (λ p. omega arith) (λ p. absurd (omega arith)) o)))
+      (cases_order i (suc j))
+
+  -- a slot ends by the end of its level
+  level_end : (j s : ℕ) → s < slots_at top j → places_below each top j + s * each j + each j ≤ places_below each top (suc j)
+  level_end j s h = omega (arith, part_end s (slots_at top j) (each j) h)
+
+  -- the level that a place below level n is in
+  record InLevel (n x : ℕ) : Type 0 where
+    pub level : ℕ
+    pub there : level < n
+    pub from : places_below each top level ≤ x
+    pub below : x < places_below each top (suc level)
+
+  in_level : (n x : ℕ) → x < places_below each top n → InLevel n x
+  in_level zero x h = absurd (omega arith)
+  in_level (suc n) x h = ⊎_elim
+      (λ (u : x < places_below each top n). let l = in_level n x u in record { level = l.level; there = omega (arith, l.there); from = l.from; below = l.below })
+      (λ (u : places_below each top n ≤ x). record { level = n; there = omega arith; from = u; below = h })
+      (cases_lt x (places_below each top n))
+
+module _ (each : ℕ → ℕ) (top whole : ℕ) (all : places_below each top (top + 1) ≡ whole) where
+  -- where slot s of level j of scale i begins
+  abbrev pub start : ℕ → ℕ → ℕ → ℕ
+  start i j s = i * whole + places_below each top j + s * each j
+
+  -- a slot ends by the end of its scale, and by the end of n scales
+  scale_end : (j s : ℕ) → j ≤ top → s < slots_at top j → places_below each top j + s * each j + each j ≤ whole
+  scale_end j s hj hs = omega (arith, all, level_end each top j s hs, below_mono each top (suc j) (top + 1) (omega arith))
+
+  pub slot_end : (n i j s : ℕ) → i < n → j ≤ top → s < slots_at top j → start i j s + each j ≤ n * whole
+  slot_end n i j s hi hj hs = omega (arith, scale_end j s hj hs, part_end i n whole hi)
+
+  -- a place of two slots: neither of them comes before the other
+  same_scale : (x i j s i' j' s' : ℕ) → j ≤ top → s < slots_at top j → x < start i j s + each j → start i' j' s' ≤ x → i' ≤ i
+  same_scale x i j s i' j' s' hj hs below from = ⊎_elim
+      (λ (u : i < i'). absurd (omega (arith, slot_end i' i j s u hj hs)))
+      (λ (u : i' ≤ i). u)
+      (cases_lt i i')
+
+  same_level : (x i j s j' s' : ℕ) → s < slots_at top j → x < start i j s + each j → start i j' s' ≤ x → j' ≤ j
+  same_level x i j s j' s' hs below from = ⊎_elim
+      (λ (u : j < j'). absurd (omega (arith, level_end each top j s hs, below_mono each top (suc j) j' u)))
+      (λ (u : j' ≤ j). u)
+      (cases_lt j j')
+
+  same_slot : (x i j s s' : ℕ) → x < start i j s + each j → start i j s' ≤ x → s' ≤ s
+  same_slot x i j s s' below from = ⊎_elim
+      (λ (u : s < s'). absurd (omega (arith, part_end s s' (each j) u)))
+      (λ (u : s' ≤ s). u)
+      (cases_lt s s')
+
+module _ (each : ℕ → ℕ) (shape : Shape) (whole : ℕ) (all : places_below each shape.top (shape.top + 1) ≡ whole) where
+  -- a place is one slot's alone
+  only : (x i j s i' j' s' : ℕ) → HasPlace (start each shape.top whole all) each shape x i j s → HasPlace (start each shape.top whole all) each shape x i' j' s' → (i' ≡ i) × (j' ≡ j) × (s' ≡ s)
+  only x i j s i' j' s' h h' =
+      let top = shape.top in
+      let scale : i' ≡ i = omega (
+        arith,
+        same_scale each top whole all x i j s i' j' s' h.there.level h.there.slot h.below h'.from,
+        same_scale each top whole all x i' j' s' i j s h'.there.level h'.there.slot h'.below h.from,
+      ) in
+      let at = subst (λ n. HasPlace (start each top whole all) each shape x n j' s') scale h' in
+      let level : j' ≡ j = omega (
+        arith,
+        same_level each top whole all x i j s j' s' h.there.slot h.below at.from,
+        same_level each top whole all x i j' s' j s at.there.slot at.below h.from,
+      ) in
+      let on = subst (λ n. HasPlace (start each top whole all) each shape x i n s') level at in (
+        scale,
+        level,
+        omega (
+          arith,
+          same_slot each top whole all x i j s s' h.below on.from,
+          same_slot each top whole all x i j s' s on.below h.from,
+        ),
+      )
+
+  -- whatever so many scales need of a table, they fill
+  filled : Fill (start each shape.top whole all) each shape (shape.scales * whole)
+  filled = record {
+    within = λ i j s h. slot_end each shape.top whole all shape.scales i j s h.scale h.level h.slot;
+    once = λ x h.
+        let pos : 0 < whole = ⊎_elim (λ (z : whole ≡ 0). absurd (omega (arith, ap (λ w. shape.scales * w) z, mul-zero shape.scales))) (λ (n : whole ≡ 0 → ⊥). omega arith) (cases_eq whole 0) in
+        let i = x / whole in
+        let split = div-add-mod' x whole in
+        let l = in_level each shape.top (shape.top + 1) (x % whole) (omega (arith, all, mod_below x whole pos)) in
+        let left = x % whole - places_below each shape.top l.level in
+        let inside : left < slots_at shape.top l.level * each l.level = omega (arith, l.below, l.from) in
+        let some : 0 < each l.level = ⊎_elim (λ (z : each l.level ≡ 0). absurd (omega (arith, inside, ap (λ w. slots_at shape.top l.level * w) z, mul-zero (slots_at shape.top l.level)))) (λ (n : each l.level ≡ 0 → ⊥). omega arith) (cases_eq (each l.level) 0) in
+        let s = left / each l.level in
+        let cut = div-add-mod' left (each l.level) in
+        let here : HasPlace (start each shape.top whole all) each shape x i l.level s = record {
+          there = record { scale = div_below x whole shape.scales pos h; level = omega (arith, l.there); slot = div_below left (each l.level) (slots_at shape.top l.level) some inside };
+          from = omega (arith, split, cut, l.from);
+          below = omega (arith, split, cut, l.from, mod_below left (each l.level) some);
+        } in
+        record { scale = i; level = l.level; slot = s; holds = here; only = λ i' j' s' other. only x i l.level s i' j' s' here other };
+  }
+
+-- so do the rows, and the heads
+pub rows_filled : (shape : Shape) → FillRows shape (shape.scales * scale_rows shape.top)
+rows_filled shape = filled (rows_at shape.top) shape (scale_rows shape.top) (rows_of_scale shape.top)
+
+pub heads_filled : (shape : Shape) → FillHeads shape (shape.scales * scale_heads shape.top)
+heads_filled shape =
+    let whole = scale_heads shape.top in
+    subst (λ f. Fill f (λ j. 1) shape (shape.scales * whole)) (λ t i j s. i * whole + heads_below shape.top j + mul-one s t) (filled (λ j. 1) shape whole (heads_of_scale shape.top))

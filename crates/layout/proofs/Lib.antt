@@ -1,0 +1,14 @@
+pub mod Answering
+pub mod Bits
+pub mod Closed
+pub mod Edges
+pub mod Falling
+pub mod Few
+pub mod Filling
+pub mod Largest
+pub mod Multiples
+pub mod Nearness
+pub mod Scales
+pub mod Small
+pub mod Walks
+pub mod Whole

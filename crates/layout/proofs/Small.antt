@@ -1,0 +1,23 @@
+-- No place of the layout is large. Assumes nothing.
+use Rattle.std.proofs.Common.{ℕ, ◌+◌, ◌-◌, ◌*◌, ◌^◌, ◌<◌, ◌≤◌, arith}
+use Rattle.std.proofs.lemmas.Nat.{mul-le}
+use Rattle.layout.specs.Inside.{IsLevel}
+use Rattle.layout.specs.Slots.{slots_at, rows_at, scale_rows, scale_heads, slot_at}
+use Rattle.layout.proofs.Closed.{pow_mono, rows_closed, rows_of_scale, heads_of_scale}
+use Rattle.layout.proofs.Filling.{slot_end}
+
+few_rows : (top : ℕ) → top ≤ 9 → scale_rows top < 2 ^ 16
+few_rows top h =
+    let whole : 2 ^ top * (top + 1) ≤ 512 * 10 = mul-le (2 ^ top) (top + 1) 512 10 (pow_mono top 9 h) (omega arith) in
+    let all : (top + 1) * (2 ^ top * (top + 1)) ≤ 10 * 5120 = mul-le (top + 1) (2 ^ top * (top + 1)) 10 5120 (omega arith) whole in
+    let last : 2 ^ (top + 1) * (top + 1) ≤ 1024 * 10 = mul-le (2 ^ (top + 1)) (top + 1) 1024 10 (pow_mono (top + 1) 10 (omega arith)) (omega arith) in
+    omega (arith, rows_closed top (top + 1) (omega arith), rows_of_scale top, all, last, pow_mono (top + 1 - (top + 1)) 10 (omega arith))
+
+few_heads : (top : ℕ) → top ≤ 9 → scale_heads top < 2 ^ 11
+few_heads top h = omega (arith, pow_mono (top + 1) 10 (omega arith))
+
+pub start_small : (top i j s : ℕ) → IsLevel top i j → s < slots_at top j → (slot_at top i j s).start < 2 ^ 21
+start_small top i j s h hs = omega (arith, few_rows top h.highest, slot_end (rows_at top) top (scale_rows top) (rows_of_scale top) 17 i j s (omega (arith, h.lowest, h.scale)) h.level hs)
+
+pub head_small : (top i j s : ℕ) → IsLevel top i j → s < slots_at top j → (slot_at top i j s).head < 2 ^ 16
+head_small top i j s h hs = omega (arith, few_heads top h.highest, slot_end (λ k. 1) top (scale_heads top) (heads_of_scale top) 17 i j s (omega (arith, h.lowest, h.scale)) h.level hs)

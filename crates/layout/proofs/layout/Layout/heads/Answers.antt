@@ -1,0 +1,10 @@
+use Rattle.std.proofs.Common.{◌*◌, ap, sym}
+use Rattle.layout.proofs.Closed.{heads_of_scale}
+use Rattle.layout.proofs.Filling.{heads_filled}
+use Rattle.layout.proofs.layout.Layout.heads.Goals as goal
+
+pub returns-clause-sum : goal.returns-clause-sum
+returns-clause-sum c = rw (← c.self.view_is, c.scale_heads.ensures) (ap (λ n. c.self.inside.scales * n) (sym (heads_of_scale c.self.inside.top)))
+
+pub returns-clause-filled : goal.returns-clause-filled
+returns-clause-filled c = rw (← c.self.view_is, c.scale_heads.ensures) (heads_filled _)

@@ -1,0 +1,28 @@
+-- What is always so of the numbers inside a block and inside the two walks over blocks. Assumes nothing.
+use Rattle.std.specs.Prelude.{◌≡◌, ℕ, ◌+◌, ◌*◌, ◌%◌, ◌^◌, ◌<◌, ◌≤◌}
+use Rattle.layout.specs.Slots.{IsShape, block_size}
+
+-- a level j and a scale i of a ladder whose last level is t
+pub record IsLevel (t i j : ℕ) : Type 0 where
+  pub lowest : 4 ≤ t
+  pub highest : t ≤ 9
+  pub scale : t + i ≤ 20
+  pub level : j ≤ t
+
+-- block b of that level: the number of its first arrival has 32 bits
+pub record IsStretch (t i j b : ℕ) : Type 0 where
+  pub there : IsLevel t i j
+  pub first : b * block_size i j < 2 ^ 32
+
+-- of the blocks of an arrival, those from level j of scale i on are left, of n scales
+pub record AreLeft (t n i j : ℕ) : Type 0 where
+  pub shape : IsShape t n
+  pub scale : i ≤ n
+  pub level : j ≤ t
+
+-- a walk from p to q at scale i: both are multiples of its smallest block
+pub record IsWalk (t i p q : ℕ) : Type 0 where
+  pub there : IsLevel t i 0
+  pub ordered : p ≤ q
+  pub start : p % 2 ^ i ≡ 0
+  pub end : q % 2 ^ i ≡ 0

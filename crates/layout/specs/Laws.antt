@@ -1,0 +1,98 @@
+-- What the layout and the cover are good for. Assumes nothing.
+use Rattle.std.specs.Prelude.{◌≡◌, ℕ, ◌+◌, ◌-◌, ◌*◌, ◌%◌, ◌^◌, ◌<◌, ◌≤◌, ◌≢◌, false, List, [], ◌∷◌, length, sum_by, All}
+use Rattle.layout.specs.Slots.{Shape, slots_at, rows_at, slot_at}
+use Rattle.layout.specs.Blocks.{Stretch, size, first}
+use Rattle.layout.specs.Covers.{scale_of, start_of, end_of, fits}
+
+-- slot s of level j of scale i is there
+pub record IsSlot (shape : Shape) (i j s : ℕ) : Type 0 where
+  pub scale : i < shape.scales
+  pub level : j ≤ shape.top
+  pub slot : s < slots_at shape.top j
+
+-- place x of a table is one of that slot's, which has `each j` places from `start i j s` on
+pub record HasPlace (start : ℕ → ℕ → ℕ → ℕ) (each : ℕ → ℕ) (shape : Shape) (x i j s : ℕ) : Type 0 where
+  pub there : IsSlot shape i j s
+  pub from : start i j s ≤ x
+  pub below : x < start i j s + each j
+
+-- something is so for three numbers, and for no others
+pub record JustOne (P : ℕ → ℕ → ℕ → Type 0) : Type 0 where
+  pub scale : ℕ
+  pub level : ℕ
+  pub slot : ℕ
+  pub holds : P scale level slot
+  pub only : (i j s : ℕ) → P i j s → (i ≡ scale) × (j ≡ level) × (s ≡ slot)
+
+-- the slots fill so many places: each is one slot's and no other's, and no slot goes beyond them
+pub record Fill (start : ℕ → ℕ → ℕ → ℕ) (each : ℕ → ℕ) (shape : Shape) (places : ℕ) : Type 0 where
+  pub once : (x : ℕ) → x < places → JustOne (HasPlace start each shape x)
+  pub within : (i j s : ℕ) → IsSlot shape i j s → start i j s + each j ≤ places
+
+-- their rows and their heads do
+abbrev pub FillRows : Shape → ℕ → Type 0
+FillRows shape rows = Fill (λ i j s. (slot_at shape.top i j s).start) (rows_at shape.top) shape rows
+
+abbrev pub FillHeads : Shape → ℕ → Type 0
+FillHeads shape heads = Fill (λ i j s. (slot_at shape.top i j s).head) (λ j. 1) shape heads
+
+-- a block of one of the scales and levels that there are
+pub record IsBlock (shape : Shape) (b : Stretch) : Type 0 where
+  pub top : b.top ≡ shape.top
+  pub scale : b.scale < shape.scales
+  pub level : b.level ≤ shape.top
+
+-- the longest windows
+abbrev pub longest : Shape → ℕ
+longest shape = 2 ^ (shape.top + (shape.scales - 1))
+
+-- the newest n of m arrivals can be a window
+pub record IsWindow (shape : Shape) (m n : ℕ) : Type 0 where
+  pub come : n ≤ m
+  pub short : n ≤ longest shape
+
+-- scale i is for windows of n keys, and no smaller scale is
+pub record IsScaleFor (shape : Shape) (n i : ℕ) : Type 0 where
+  pub there : i < shape.scales
+  pub long : n ≤ 2 ^ (shape.top + i)
+  pub least : (h : ℕ) → h < i → 2 ^ (shape.top + h) < n
+
+-- blocks one behind the other, from arrival p to arrival q
+abbrev pub Adjacent : ℕ → ℕ → List Stretch → Type 0
+Adjacent p q [] = p ≡ q
+Adjacent p q (b ∷ bs) = (first b ≡ p) × Adjacent (p + size b) q bs
+
+-- a block can answer for the newest n of m arrivals: it lies inside them, all its arrivals have come, and no block that began later has taken its slot
+pub record CanAnswer (m n : ℕ) (b : Stretch) : Type 0 where
+  pub inside : m - n ≤ first b
+  pub complete : first b + size b ≤ m
+  pub kept : (c : ℕ) → b.number < c → c * size b < m → c % slots_at b.top b.level ≢ b.number % slots_at b.top b.level
+
+-- no larger block could have started in its place and ended by arrival q
+abbrev pub IsLargest : ℕ → Stretch → Type 0
+IsLargest q b = (j : ℕ) → b.level < j → j ≤ b.top → fits b.scale (first b) q j ≡ false
+
+-- blocks from p to q, and so many ignored arrivals, are a cover of the newest n of m arrivals
+pub record IsCoverFrom (shape : Shape) (m n p q : ℕ) (blocks : List Stretch) (ignored : ℕ) : Type 0 where
+  pub ordered : p ≤ q
+  pub adjacent : Adjacent p q blocks
+  pub there : All (IsBlock shape) blocks
+  pub answer : All (CanAnswer m n) blocks
+  pub largest : All (IsLargest q) blocks
+  pub few : length blocks ≤ 2 * (shape.top + 1)
+  pub whole : ignored + sum_by size blocks ≡ n
+
+-- from where a cover begins to where it ends
+abbrev pub IsCover : Shape → ℕ → ℕ → List Stretch → ℕ → Type 0
+IsCover shape m n blocks ignored = IsCoverFrom shape m n (start_of (scale_of shape n) m n) (end_of (scale_of shape n) m) blocks ignored
+
+-- a block loses no more than one tally step in rows + 1 can: the rows are those of its slot
+abbrev pub LosesLittle : (Stretch → ℕ) → Stretch → Type 0
+LosesLittle lost b = lost b * (rows_at b.top b.level + 1) ≤ size b
+
+-- how far a count can be off: by what the cover ignores, and by what its blocks lost
+pub record IsNear (shape : Shape) (n : ℕ) (blocks : List Stretch) (ignored : ℕ) : Type 0 where
+  -- less than n / 2^a, at the accuracy a
+  pub near : (a : ℕ) → shape.top ≡ a + 3 → (lost : Stretch → ℕ) → All (LosesLittle lost) blocks → 1 ≤ n → 2 ^ a * (ignored + sum_by lost blocks) < n
+  -- by nothing, at the smallest scale
+  pub exact : scale_of shape n ≡ 0 → (lost : Stretch → ℕ) → All (LosesLittle lost) blocks → (ignored ≡ 0) × (sum_by lost blocks ≡ 0)

@@ -1,0 +1,127 @@
+//! The layout of a setting.
+
+ghost use Rattle.std.specs.Prelude.{◌≡◌, ◌+◌, ◌*◌, ◌^◌, ◌<◌, ◌≤◌, All};
+ghost use Rattle.layout.specs.Blocks.{visits_of};
+ghost use Rattle.layout.specs.Covers.{cover_of, end_of, ignored_of, scale_of, start_of};
+ghost use Rattle.layout.specs.Laws.{FillHeads, FillRows, IsBlock, IsCover, IsNear, IsScaleFor, IsWindow, longest};
+ghost use Rattle.layout.specs.Slots.{heads_below, rows_below, scale_heads, scale_rows, shape_of};
+
+use crate::cover::Cover;
+use crate::levels;
+use crate::visits::Visits;
+use crate::walk::Walk;
+use settings::Setting;
+use std::marker::Model;
+
+/// The scales of a setting, their levels, and the slots of these in two tables: a few numbers, from which each place is worked
+/// out anew.
+#[derive(Clone, Copy, PartialEq, Eq, Debug)]
+pub struct Layout {
+    top: u32,
+    scales: u32,
+}
+
+impl Model for Layout {
+    ghost use Rattle.layout.specs.Slots.{IsShape, Shape};
+
+    ghost Value = { Shape };
+
+    ghost view = { λ l. record { top = l.top; scales = l.scales } };
+
+    ghost invariant = { λ l. IsShape l.top l.scales };
+
+    ghost inverse = { λ s. record { top = s.top; scales = s.scales } };
+}
+
+impl Layout {
+    /// The layout of a setting.
+    pub fn of(setting: Setting) -> Layout
+        ensures { result ≡ shape_of setting.accuracy setting.span }
+    {
+        let top = setting.accuracy() + 3;
+        Layout {
+            top,
+            scales: setting.span() + 1 - top,
+        }
+    }
+
+    /// How many rows the slots take.
+    pub fn rows(&self) -> usize
+        ensures value { result ≡ self.now.scales * scale_rows self.now.top }
+        ensures sum { result ≡ self.now.scales * rows_below self.now.top (self.now.top + 1) }
+        ensures filled { FillRows self.now result }
+    {
+        self.scales as usize * levels::scale_rows(self.top)
+    }
+
+    /// How many heads the slots take: one each.
+    pub fn heads(&self) -> usize
+        ensures value { result ≡ self.now.scales * scale_heads self.now.top }
+        ensures sum { result ≡ self.now.scales * heads_below self.now.top (self.now.top + 1) }
+        ensures filled { FillHeads self.now result }
+    {
+        self.scales as usize * levels::scale_heads(self.top)
+    }
+
+    /// The scale that answers for windows of this size: the smallest that is for windows so long.
+    pub fn scale_of(&self, window: u32) -> u32
+        ensures value { result ≡ scale_of self.now window }
+        ensures right { window ≤ longest self.now → IsScaleFor self.now window result }
+    {
+        let bits = u32::BITS - window.saturating_sub(1).leading_zeros();
+        bits.saturating_sub(self.top).min(self.scales - 1)
+    }
+
+    /// The blocks that an arrival falls into: one at each level of each scale, by scale and then by level.
+    pub fn visits(&self, arrival: u32) -> Visits
+        ensures value { result ≡ visits_of self.now arrival }
+        ensures there { All (IsBlock self.now) result }
+    {
+        Visits {
+            top: self.top,
+            scales: self.scales,
+            arrival,
+            scale: 0,
+            level: 0,
+        }
+    }
+
+    /// The blocks that answer for the newest `window` of `arrivals` keys.
+    pub fn cover(&self, arrivals: u32, window: u32) -> Cover
+        ensures blocks { result.blocks ≡ cover_of self.now arrivals window }
+        ensures ignored { result.ignored ≡ ignored_of self.now arrivals window }
+        ensures right { IsWindow self.now arrivals window → IsCover self.now arrivals window result.blocks result.ignored }
+        ensures near { IsWindow self.now arrivals window → IsNear self.now window result.blocks result.ignored }
+    {
+        let top = self.top;
+        let scale = self.scale_of(window);
+        let start = start(scale, arrivals, window);
+        let end = end(scale, arrivals);
+        Cover {
+            blocks: Walk {
+                top,
+                scale,
+                place: start,
+                end,
+            },
+            ignored: window - (end - start),
+        }
+    }
+}
+
+// Where the cover of a window begins: at the window's first key, rounded up to a multiple of the scale's smallest block. The
+// block that the window's edge cuts is left out.
+fn start(scale: u32, arrivals: u32, window: u32) -> u32
+    requires { (scale ≤ 16) × (start_of scale arrivals window < 2 ^ 32) }
+    ensures { result ≡ start_of scale arrivals window }
+{
+    arrivals.saturating_sub(window).next_multiple_of(1 << scale)
+}
+
+// Where it ends: behind the last key that came, rounded down.
+fn end(scale: u32, arrivals: u32) -> u32
+    requires { scale ≤ 16 }
+    ensures { result ≡ end_of scale arrivals }
+{
+    arrivals - arrivals % (1 << scale)
+}

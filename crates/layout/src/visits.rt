@@ -1,0 +1,55 @@
+//! The blocks that an arrival falls into.
+
+use crate::block::Block;
+use std::marker::Model;
+
+/// The blocks that an arrival falls into, at the scales and levels that are left.
+#[derive(Drop)]
+pub struct Visits {
+    pub(crate) top: u32,
+    pub(crate) scales: u32,
+    pub(crate) arrival: u32,
+    pub(crate) scale: u32,
+    pub(crate) level: u32,
+}
+
+impl Model for Visits {
+    ghost use Rattle.std.specs.Prelude.{List};
+    ghost use Rattle.layout.specs.Blocks.{Stretch, visits_left};
+    ghost use Rattle.layout.specs.Inside.{AreLeft};
+
+    ghost Value = { List Stretch };
+
+    ghost view = { λ v. visits_left v.top v.scales v.arrival v.scale v.level };
+
+    ghost invariant = { λ v. AreLeft v.top v.scales v.scale v.level };
+}
+
+impl Iterator for Visits {
+    ghost use Rattle.std.specs.Iterator.{YieldsFirst, item_count};
+
+    type Item = Block;
+
+    ghost next_gives = { YieldsFirst (λ v. v) };
+
+    ghost remaining = { item_count (λ v. v) };
+
+    fn next(&mut self) -> Option<Block> {
+        if self.scale == self.scales {
+            return None;
+        }
+        let block = Block {
+            top: self.top,
+            scale: self.scale,
+            level: self.level,
+            number: self.arrival >> (self.scale + self.level),
+        };
+        if self.level < self.top {
+            self.level += 1;
+        } else {
+            self.scale += 1;
+            self.level = 0;
+        }
+        Some(block)
+    }
+}

@@ -1,0 +1,78 @@
+//! The walk from block to block.
+
+ghost use Rattle.std.specs.Prelude.{◌≡◌, ◌+◌, ◌<◌, ◌≤◌};
+ghost use Rattle.layout.specs.Blocks.{block_of, size};
+ghost use Rattle.layout.specs.Covers.{level_at};
+ghost use Rattle.layout.specs.Inside.{IsWalk};
+
+use crate::block::Block;
+use std::marker::Model;
+
+/// The blocks of a cover that are left, oldest first.
+#[derive(Drop)]
+pub struct Walk {
+    pub(crate) top: u32,
+    pub(crate) scale: u32,
+    pub(crate) place: u32,
+    pub(crate) end: u32,
+}
+
+impl Model for Walk {
+    ghost use Rattle.std.specs.Prelude.{List};
+    ghost use Rattle.layout.specs.Blocks.{Stretch};
+    ghost use Rattle.layout.specs.Covers.{walk_between};
+    ghost use Rattle.layout.specs.Inside.{IsWalk};
+
+    ghost Value = { List Stretch };
+
+    ghost view = { λ w. walk_between w.top w.scale w.place w.end };
+
+    ghost invariant = { λ w. IsWalk w.top w.scale w.place w.end };
+}
+
+// The largest level whose block can start at a place and ends by another: no more zeros stand behind the place's number in
+// binary, and it is not longer than what is left.
+fn level_at(scale: u32, place: u32, end: u32, top: u32) -> u32
+    requires { (place < end) × (top + scale ≤ 20) }
+    ensures { result ≡ level_at scale place end top }
+{
+    place
+        .trailing_zeros()
+        .min((end - place).ilog2())
+        .saturating_sub(scale)
+        .min(top)
+}
+
+// The largest block that can start at a place and ends by another.
+fn block_at(top: u32, scale: u32, place: u32, end: u32) -> Block
+    requires { IsWalk top scale place end × place < end }
+    ensures value { result ≡ block_of top place scale (level_at scale place end top) }
+    ensures after { IsWalk top scale (place + size result) end }
+{
+    let level = level_at(scale, place, end, top);
+    Block {
+        top,
+        scale,
+        level,
+        number: place >> (scale + level),
+    }
+}
+
+impl Iterator for Walk {
+    ghost use Rattle.std.specs.Iterator.{YieldsFirst, item_count};
+
+    type Item = Block;
+
+    ghost next_gives = { YieldsFirst (λ w. w) };
+
+    ghost remaining = { item_count (λ w. w) };
+
+    fn next(&mut self) -> Option<Block> {
+        if self.place >= self.end {
+            return None;
+        }
+        let block = block_at(self.top, self.scale, self.place, self.end);
+        self.place += block.size();
+        Some(block)
+    }
+}
