@@ -1,4 +1,5 @@
 pub mod Blocks
+pub mod Cases
 pub mod Covers
 pub mod Inside
 pub mod Laws

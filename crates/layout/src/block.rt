@@ -49,7 +49,7 @@ impl Block {
     pub fn slot(&self) -> Slot
         ensures { result ≡ slot_of self.now }
     {
-        let place = self.number as usize % levels::slots_at(self.top, self.level);
+        let place = (self.number % levels::slots_at(self.top, self.level)) as usize;
         let rows = levels::rows_at(self.top, self.level);
         let scale = self.scale as usize;
         Slot {

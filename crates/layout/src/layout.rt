@@ -1,7 +1,9 @@
 //! The layout of a setting.
 
-ghost use Rattle.std.specs.Prelude.{◌≡◌, ◌+◌, ◌*◌, ◌^◌, ◌<◌, ◌≤◌, All};
+ghost use Rattle.std.specs.Int.{leading_zeros, w32};
+ghost use Rattle.std.specs.Prelude.{◌≡◌, ◌+◌, ◌-◌, ◌*◌, ◌^◌, ◌<◌, ◌≤◌, All};
 ghost use Rattle.layout.specs.Blocks.{visits_of};
+ghost use Rattle.layout.specs.Cases.{Needs, Ninety, Seventeen};
 ghost use Rattle.layout.specs.Covers.{cover_of, end_of, ignored_of, scale_of, start_of};
 ghost use Rattle.layout.specs.Laws.{FillHeads, FillRows, IsBlock, IsCover, IsNear, IsScaleFor, IsWindow, longest};
 ghost use Rattle.layout.specs.Slots.{heads_below, rows_below, scale_heads, scale_rows, shape_of};
@@ -36,7 +38,8 @@ impl Model for Layout {
 impl Layout {
     /// The layout of a setting.
     pub fn of(setting: Setting) -> Layout
-        ensures { result ≡ shape_of setting.accuracy setting.span }
+        ensures value { result ≡ shape_of setting.accuracy setting.span }
+        ensures cases { Needs }
     {
         let top = setting.accuracy() + 3;
         Layout {
@@ -68,8 +71,7 @@ impl Layout {
         ensures value { result ≡ scale_of self.now window }
         ensures right { window ≤ longest self.now → IsScaleFor self.now window result }
     {
-        let bits = u32::BITS - window.saturating_sub(1).leading_zeros();
-        bits.saturating_sub(self.top).min(self.scales - 1)
+        digits(window).saturating_sub(self.top).min(self.scales - 1)
     }
 
     /// The blocks that an arrival falls into: one at each level of each scale, by scale and then by level.
@@ -92,6 +94,7 @@ impl Layout {
         ensures ignored { result.ignored ≡ ignored_of self.now arrivals window }
         ensures right { IsWindow self.now arrivals window → IsCover self.now arrivals window result.blocks result.ignored }
         ensures near { IsWindow self.now arrivals window → IsNear self.now window result.blocks result.ignored }
+        ensures cases { Ninety × Seventeen }
     {
         let top = self.top;
         let scale = self.scale_of(window);
@@ -107,6 +110,13 @@ impl Layout {
             ignored: window - (end - start),
         }
     }
+}
+
+// The least power of 2 that is no less than a window's size, as its exponent: the digits that the number before has in binary.
+fn digits(window: u32) -> u32
+    ensures { result ≡ 32 - leading_zeros w32 (window - 1) }
+{
+    u32::BITS - window.saturating_sub(1).leading_zeros()
 }
 
 // Where the cover of a window begins: at the window's first key, rounded up to a multiple of the scale's smallest block. The

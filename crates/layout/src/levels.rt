@@ -12,11 +12,11 @@ fn power(exponent: u32) -> usize
 
 // How many slots a level has: one more than the blocks of that level in the longest window, of which the oldest may be cut by
 // the window's edge.
-pub(crate) fn slots_at(top: u32, level: u32) -> usize
+pub(crate) fn slots_at(top: u32, level: u32) -> u32
     requires { (top ≤ 9) × (level ≤ top) }
     ensures { result ≡ slots_at top level }
 {
-    power(top - level) + 1
+    (1 << (top - level)) + 1
 }
 
 // How many rows each of them has.

@@ -1,6 +1,4 @@
-use Rattle.std.proofs.Common.{◌∙◌, sym, ap, arith, subst, ◌-◌, ◌≤◌}
-use Rattle.std.specs.Int.{leading_zeros}
-use Rattle.std.proofs.Common.{w32}
+use Rattle.std.proofs.Common.{◌∙◌, ◌≤◌, sym, ap, subst, arith}
 use Rattle.layout.specs.Covers.{scale_of}
 use Rattle.layout.specs.Laws.{longest}
 use Rattle.layout.proofs.Scales.{scale_by_digits, scale_right}
@@ -9,8 +7,7 @@ use Rattle.layout.proofs.layout.Layout.scale_of.Goals as goal
 pub returns-clause-value : goal.returns-clause-value
 returns-clause-value c =
     let shape = c.self.inside in
-    sym (scale_by_digits shape.top c.args.window shape.scales (32 - leading_zeros w32 c.saturating_sub.result) c.min.result
-    (ap (λ a. 32 - leading_zeros w32 a) c.saturating_sub.ensures) (omega arith) (omega arith))
+    sym (scale_by_digits shape.top c.args.window shape.scales c.digits.result c.min.result c.digits.ensures (omega arith) (omega arith))
     ∙ ap (λ s. scale_of s c.args.window) c.self.view_is
 
 pub returns-clause-right : goal.returns-clause-right
