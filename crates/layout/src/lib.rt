@@ -15,3 +15,6 @@ pub use layout::Layout;
 pub use slot::Slot;
 pub use visits::Visits;
 pub use walk::Walk;
+
+#[cfg(test)]
+mod tests;

@@ -1,0 +1,68 @@
+//! The slots of a setting, counted out.
+
+use layout::Slot;
+use std::alloc::{AllocError, Global};
+
+// A level: how many arrivals its blocks hold, and its slots.
+#[derive(Drop)]
+pub(crate) struct Level {
+    pub(crate) size: u32,
+    pub(crate) slots: Vec<Slot>,
+}
+
+// The levels of all scales in order, how many each scale has, and the rows and heads of them all.
+#[derive(Drop)]
+pub(crate) struct Plan {
+    pub(crate) top: u32,
+    pub(crate) span: u32,
+    pub(crate) levels: Vec<Level>,
+    pub(crate) rows: usize,
+    pub(crate) heads: usize,
+}
+
+// A number doubled so many times.
+pub(crate) fn doubled(number: u32, times: u32) -> u32 {
+    let mut result = number;
+    for _ in 0..times {
+        result = result.saturating_mul(2);
+    }
+    result
+}
+
+impl Plan {
+    pub(crate) fn of(accuracy: u32, span: u32, heap: Global) -> Result<Plan, AllocError> {
+        let top = accuracy.saturating_add(3);
+        let mut plan = Plan {
+            top,
+            span,
+            levels: Vec::new(heap),
+            rows: 0,
+            heads: 0,
+        };
+        for scale in top..span.saturating_add(1) {
+            for level in 0..top.saturating_add(1) {
+                let size = doubled(1, scale.saturating_sub(top).saturating_add(level));
+                let slots = plan.count_out(level, heap)?;
+                plan.levels.push(Level { size, slots })?;
+            }
+        }
+        Ok(plan)
+    }
+
+    // The next slots, of a level: in as many rows and heads as they need.
+    fn count_out(&mut self, level: u32, heap: Global) -> Result<Vec<Slot>, AllocError> {
+        let blocks = doubled(1, self.top.saturating_sub(level));
+        let rows = doubled(self.top.saturating_add(1), level).saturating_sub(1) as usize;
+        let mut slots = Vec::new(heap);
+        for _ in 0..blocks.saturating_add(1) {
+            slots.push(Slot {
+                start: self.rows,
+                rows,
+                head: self.heads,
+            })?;
+            self.rows = self.rows.saturating_add(rows);
+            self.heads = self.heads.saturating_add(1);
+        }
+        Ok(slots)
+    }
+}
