@@ -1,8 +1,8 @@
 -- The slots fill a table: slot after slot, level after level and scale after scale. Assumes nothing.
-use Rattle.std.proofs.Common.{◌≡◌, ℕ, zero, suc, ◌+◌, ◌-◌, ◌*◌, ◌/◌, ◌%◌, ◌<◌, ◌≤◌, ◌⊎◌, ⊎_elim, subst, ap, arith, suc-mul, mul-le-mul_right, div-add-mod', mul-zero, mul-one}
+use Rattle.std.proofs.Common.{◌≡◌, ℕ, zero, suc, ◌+◌, ◌-◌, ◌*◌, ◌/◌, ◌%◌, ◌<◌, ◌≤◌, ◌⊎◌, ⊎_elim, subst, ap, arith, suc-mul, mul-le-mul_right, div-add-mod', mul-zero, mul-one, add-one, sym, ◌∙◌}
 use Rattle.std.proofs.lemmas.Bool.{cases_order, cases_lt, cases_eq}
 use Rattle.std.proofs.lemmas.Nat.{div_below, mod_below}
-use Rattle.layout.specs.Slots.{Shape, slots_at, rows_at, places_below, heads_below, scale_rows, scale_heads}
+use Rattle.layout.specs.Slots.{Shape, slots_at, rows_at, places_below, rows_below, heads_below, scale_rows, scale_heads}
 use Rattle.layout.specs.Laws.{HasPlace, Fill, FillRows, FillHeads}
 use Rattle.layout.proofs.Closed.{rows_of_scale, heads_of_scale}
 
@@ -41,17 +41,17 @@ module _ (each : ℕ → ℕ) (top whole : ℕ) (all : places_below each top (to
   abbrev pub start : ℕ → ℕ → ℕ → ℕ
   start i j s = i * whole + places_below each top j + s * each j
 
-  -- a slot ends by the end of its scale, and by the end of n scales
-  scale_end : (j s : ℕ) → j ≤ top → s < slots_at top j → places_below each top j + s * each j + each j ≤ whole
-  scale_end j s hj hs = omega (arith, all, level_end each top j s hs, below_mono each top (suc j) (top + 1) (omega arith))
+  -- a level ends by the end of so many scales, and so does each of its slots
+  pub level_by : (n i j : ℕ) → i < n → j ≤ top → i * whole + places_below each top (suc j) ≤ n * whole
+  level_by n i j hi hj = omega (arith, all, below_mono each top (suc j) (top + 1) (omega arith), part_end i n whole hi)
 
-  pub slot_end : (n i j s : ℕ) → i < n → j ≤ top → s < slots_at top j → start i j s + each j ≤ n * whole
-  slot_end n i j s hi hj hs = omega (arith, scale_end j s hj hs, part_end i n whole hi)
+  slot_by : (n i j s : ℕ) → i < n → j ≤ top → s < slots_at top j → start i j s + each j ≤ n * whole
+  slot_by n i j s hi hj hs = omega (arith, level_end each top j s hs, level_by n i j hi hj)
 
   -- a place of two slots: neither of them comes before the other
   same_scale : (x i j s i' j' s' : ℕ) → j ≤ top → s < slots_at top j → x < start i j s + each j → start i' j' s' ≤ x → i' ≤ i
   same_scale x i j s i' j' s' hj hs below from = ⊎_elim
-      (λ (u : i < i'). absurd (omega (arith, slot_end i' i j s u hj hs)))
+      (λ (u : i < i'). absurd (omega (arith, slot_by i' i j s u hj hs)))
       (λ (u : i' ≤ i). u)
       (cases_lt i i')
 
@@ -96,7 +96,7 @@ module _ (each : ℕ → ℕ) (shape : Shape) (whole : ℕ) (all : places_below 
   -- whatever so many scales need of a table, they fill
   filled : Fill (start each shape.top whole all) each shape (shape.scales * whole)
   filled = record {
-    within = λ i j s h. slot_end each shape.top whole all shape.scales i j s h.scale h.level h.slot;
+    within = λ i j s h. slot_by each shape.top whole all shape.scales i j s h.scale h.level h.slot;
     once = λ x h.
         let pos : 0 < whole = ⊎_elim (λ (z : whole ≡ 0). absurd (omega (arith, ap (λ w. shape.scales * w) z, mul-zero shape.scales))) (λ (n : whole ≡ 0 → ⊥). omega arith) (cases_eq whole 0) in
         let i = x / whole in
@@ -123,3 +123,15 @@ pub heads_filled : (shape : Shape) → FillHeads shape (shape.scales * scale_hea
 heads_filled shape =
     let whole = scale_heads shape.top in
     subst (λ f. Fill f (λ j. 1) shape (shape.scales * whole)) (λ t i j s. i * whole + heads_below shape.top j + mul-one s t) (filled (λ j. 1) shape whole (heads_of_scale shape.top))
+
+-- behind the last level of the last scale there is nothing more
+last_end : (scales whole below : ℕ) → 1 ≤ scales → below ≡ whole → (scales - 1) * whole + below ≡ scales * whole
+last_end scales whole below some e =
+    let one : scales ≡ suc (scales - 1) = omega arith in
+    omega (arith, e, ap (λ n. n * whole) one, suc-mul (scales - 1) whole)
+
+pub rows_end : (top scales : ℕ) → 1 ≤ scales → (scales - 1) * scale_rows top + rows_below top top + slots_at top top * rows_at top top ≡ scales * scale_rows top
+rows_end top scales some = omega (arith, last_end scales (scale_rows top) (rows_below top (suc top)) some (ap (rows_below top) (sym (add-one top)) ∙ rows_of_scale top))
+
+pub heads_end : (top scales : ℕ) → 1 ≤ scales → (scales - 1) * scale_heads top + heads_below top top + slots_at top top ≡ scales * scale_heads top
+heads_end top scales some = omega (arith, last_end scales (scale_heads top) (heads_below top (suc top)) some (ap (heads_below top) (sym (add-one top)) ∙ heads_of_scale top))

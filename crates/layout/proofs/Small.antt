@@ -2,9 +2,9 @@
 use Rattle.std.proofs.Common.{ℕ, ◌+◌, ◌-◌, ◌*◌, ◌^◌, ◌<◌, ◌≤◌, arith}
 use Rattle.std.proofs.lemmas.Nat.{mul-le}
 use Rattle.layout.specs.Inside.{IsLevel}
-use Rattle.layout.specs.Slots.{slots_at, rows_at, scale_rows, scale_heads, slot_at}
+use Rattle.layout.specs.Slots.{slots_at, rows_at, rows_below, heads_below, scale_rows, scale_heads}
 use Rattle.layout.proofs.Closed.{pow_mono, rows_closed, rows_of_scale, heads_of_scale}
-use Rattle.layout.proofs.Filling.{slot_end}
+use Rattle.layout.proofs.Filling.{level_by}
 
 few_rows : (top : ℕ) → top ≤ 9 → scale_rows top < 2 ^ 16
 few_rows top h =
@@ -16,8 +16,8 @@ few_rows top h =
 few_heads : (top : ℕ) → top ≤ 9 → scale_heads top < 2 ^ 11
 few_heads top h = omega (arith, pow_mono (top + 1) 10 (omega arith))
 
-pub start_small : (top i j s : ℕ) → IsLevel top i j → s < slots_at top j → (slot_at top i j s).start < 2 ^ 21
-start_small top i j s h hs = omega (arith, few_rows top h.highest, slot_end (rows_at top) top (scale_rows top) (rows_of_scale top) 17 i j s (omega (arith, h.lowest, h.scale)) h.level hs)
+pub start_small : (top i j : ℕ) → IsLevel top i j → i * scale_rows top + rows_below top j + slots_at top j * rows_at top j < 2 ^ 21
+start_small top i j h = omega (arith, few_rows top h.highest, level_by (rows_at top) top (scale_rows top) (rows_of_scale top) 17 i j (omega (arith, h.lowest, h.scale)) h.level)
 
-pub head_small : (top i j s : ℕ) → IsLevel top i j → s < slots_at top j → (slot_at top i j s).head < 2 ^ 16
-head_small top i j s h hs = omega (arith, few_heads top h.highest, slot_end (λ k. 1) top (scale_heads top) (heads_of_scale top) 17 i j s (omega (arith, h.lowest, h.scale)) h.level hs)
+pub head_small : (top i j : ℕ) → IsLevel top i j → i * scale_heads top + heads_below top j + slots_at top j < 2 ^ 16
+head_small top i j h = omega (arith, few_heads top h.highest, level_by (λ k. 1) top (scale_heads top) (heads_of_scale top) 17 i j (omega (arith, h.lowest, h.scale)) h.level)

@@ -20,6 +20,16 @@ pub record IsShape (top scales : ℕ) : Type 0 where
   pub some : 1 ≤ scales
   pub few : top + scales ≤ 21
 
+-- one level of one scale
+pub record Rung : Type 0 where
+  pub top : ℕ
+  pub scale : ℕ
+  pub number : ℕ
+
+-- the last level of the last scale
+abbrev pub last_of : Shape → Rung
+last_of shape = record { top = shape.top; scale = shape.scales - 1; number = shape.top }
+
 -- the arrivals in a block of level j of scale i
 abbrev pub block_size : ℕ → ℕ → ℕ
 block_size i j = 2 ^ (i + j)

@@ -2,16 +2,14 @@
 
 ghost use Rattle.std.specs.Prelude.{◌≡◌};
 
-use crate::levels;
+use crate::level::Level;
 use crate::slot::Slot;
 use std::marker::Model;
 
-/// A block: a level of a scale, and which of that level's blocks it is, counted from the first arrival on.
+/// A block: of a level of a scale, and which of that level's blocks it is, counted from the first arrival on.
 #[derive(Clone, Copy, PartialEq, Eq, Debug)]
 pub struct Block {
-    pub(crate) top: u32,
-    pub(crate) scale: u32,
-    pub(crate) level: u32,
+    pub(crate) level: Level,
     pub(crate) number: u32,
 }
 
@@ -21,11 +19,11 @@ impl Model for Block {
 
     ghost Value = { Stretch };
 
-    ghost view = { λ b. record { top = b.top; scale = b.scale; level = b.level; number = b.number } };
+    ghost view = { λ b. record { top = b.level.top; scale = b.level.scale; level = b.level.number; number = b.number } };
 
-    ghost invariant = { λ b. IsStretch b.top b.scale b.level b.number };
+    ghost invariant = { λ b. IsStretch b.level.top b.level.scale b.level.number b.number };
 
-    ghost inverse = { λ b. record { top = b.top; scale = b.scale; level = b.level; number = b.number } };
+    ghost inverse = { λ b. record { level = record { top = b.top; scale = b.scale; number = b.level }; number = b.number } };
 }
 
 impl Block {
@@ -35,31 +33,26 @@ impl Block {
     pub fn first(&self) -> u32
         ensures { result ≡ first self.now }
     {
-        self.number << (self.scale + self.level)
+        self.number << self.level.exponent()
     }
 
     /// How many arrivals it holds.
     pub fn size(&self) -> u32
         ensures { result ≡ size self.now }
     {
-        1 << (self.scale + self.level)
+        1 << self.level.exponent()
     }
 
     /// The slot that it uses.
     pub fn slot(&self) -> Slot
         ensures { result ≡ slot_of self.now }
     {
-        let place = (self.number % levels::slots_at(self.top, self.level)) as usize;
-        let rows = levels::rows_at(self.top, self.level);
-        let scale = self.scale as usize;
+        let place = (self.number % self.level.slots()) as usize;
+        let rows = self.level.rows();
         Slot {
-            start: scale * levels::scale_rows(self.top)
-                + levels::rows_below(self.top, self.level)
-                + place * rows,
+            start: self.level.start() + place * rows,
             rows,
-            head: scale * levels::scale_heads(self.top)
-                + levels::heads_below(self.top, self.level)
-                + place,
+            head: self.level.head() + place,
         }
     }
 }

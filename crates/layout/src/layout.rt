@@ -6,10 +6,10 @@ ghost use Rattle.layout.specs.Blocks.{visits_of};
 ghost use Rattle.layout.specs.Cases.{Needs, Ninety, Seventeen};
 ghost use Rattle.layout.specs.Covers.{cover_of, end_of, ignored_of, scale_of, start_of};
 ghost use Rattle.layout.specs.Laws.{FillHeads, FillRows, IsBlock, IsCover, IsNear, IsScaleFor, IsWindow, longest};
-ghost use Rattle.layout.specs.Slots.{heads_below, rows_below, scale_heads, scale_rows, shape_of};
+ghost use Rattle.layout.specs.Slots.{heads_below, last_of, rows_below, scale_heads, scale_rows, shape_of};
 
 use crate::cover::Cover;
-use crate::levels;
+use crate::level::Level;
 use crate::visits::Visits;
 use crate::walk::Walk;
 use settings::Setting;
@@ -54,7 +54,8 @@ impl Layout {
         ensures sum { result ≡ self.now.scales * rows_below self.now.top (self.now.top + 1) }
         ensures filled { FillRows self.now result }
     {
-        self.scales as usize * levels::scale_rows(self.top)
+        let last = self.last_level();
+        last.start() + last.slots() as usize * last.rows()
     }
 
     /// How many heads the slots take: one each.
@@ -63,7 +64,20 @@ impl Layout {
         ensures sum { result ≡ self.now.scales * heads_below self.now.top (self.now.top + 1) }
         ensures filled { FillHeads self.now result }
     {
-        self.scales as usize * levels::scale_heads(self.top)
+        let last = self.last_level();
+        last.head() + last.slots() as usize
+    }
+
+    // The last level of the last scale: behind its slots there are none.
+    fn last_level(&self) -> Level
+        ensures value { result ≡ last_of self.now }
+        ensures some { 1 ≤ self.now.scales }
+    {
+        Level {
+            top: self.top,
+            scale: self.scales - 1,
+            number: self.top,
+        }
     }
 
     /// The scale that answers for windows of this size: the smallest that is for windows so long.

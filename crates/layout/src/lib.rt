@@ -4,7 +4,7 @@
 mod block;
 mod cover;
 mod layout;
-mod levels;
+mod level;
 mod slot;
 mod visits;
 mod walk;

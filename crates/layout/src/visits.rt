@@ -1,6 +1,7 @@
 //! The blocks that an arrival falls into.
 
 use crate::block::Block;
+use crate::level::Level;
 use std::marker::Model;
 
 /// The blocks that an arrival falls into, at the scales and levels that are left.
@@ -38,18 +39,18 @@ impl Iterator for Visits {
         if self.scale == self.scales {
             return None;
         }
-        let block = Block {
+        let level = Level {
             top: self.top,
             scale: self.scale,
-            level: self.level,
-            number: self.arrival >> (self.scale + self.level),
+            number: self.level,
         };
+        let number = self.arrival >> level.exponent();
         if self.level < self.top {
             self.level += 1;
         } else {
             self.scale += 1;
             self.level = 0;
         }
-        Some(block)
+        Some(Block { level, number })
     }
 }

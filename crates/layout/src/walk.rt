@@ -6,6 +6,7 @@ ghost use Rattle.layout.specs.Covers.{level_at};
 ghost use Rattle.layout.specs.Inside.{IsWalk};
 
 use crate::block::Block;
+use crate::level::Level;
 use std::marker::Model;
 
 /// The blocks of a cover that are left, oldest first.
@@ -49,12 +50,14 @@ fn block_at(top: u32, scale: u32, place: u32, end: u32) -> Block
     ensures value { result ≡ block_of top place scale (level_at scale place end top) }
     ensures after { IsWalk top scale (place + size result) end }
 {
-    let level = level_at(scale, place, end, top);
-    Block {
+    let level = Level {
         top,
         scale,
+        number: level_at(scale, place, end, top),
+    };
+    Block {
         level,
-        number: place >> (scale + level),
+        number: place >> level.exponent(),
     }
 }
 

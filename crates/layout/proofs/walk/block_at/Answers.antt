@@ -1,37 +1,36 @@
-use Rattle.std.proofs.Common.{◌^◌, arith, add-zero, div-mul-le_self}
+use Rattle.std.proofs.Common.{◌≡◌, ◌+◌, ◌^◌, ◌<◌, ℕ, arith, div-mul-le_self}
 use Rattle.layout.specs.Slots.{block_size}
-use Rattle.layout.proofs.Largest.{IsBest, best}
-use Rattle.layout.proofs.Multiples.{a_unit_apart, together, power_of_more}
+use Rattle.layout.specs.Covers.{level_at}
+use Rattle.layout.specs.Inside.{IsWalk, IsLevel}
+use Rattle.layout.proofs.Answering.{best_there}
+use Rattle.layout.proofs.Largest.{IsBest}
+use Rattle.layout.proofs.Multiples.{together, power_of_more}
 use Rattle.layout.proofs.walk.block_at.Goals as goal
 
--- the level that was found fits, where it ends by is no further than the end
-best_at : (c : goal.After-level_at-level) → IsBest c.args.scale c.args.place c.args.end c.args.top c.level_at-level.result
-best_at c =
-    let i = c.args.scale in
-    let walks = c.requires.0 in
-    let least = a_unit_apart (2 ^ i) c.args.place c.args.end walks.start walks.end c.requires.1 in
-    rw c.level_at-level.ensures (best i c.args.place c.args.end c.args.top (record { multiple = rw (add-zero i) walks.start; ends = rw (add-zero i) least }))
+-- the level that was found fits: where its block ends is no further than the end
+module _ (top i p q j : ℕ) (walks : IsWalk top i p q) (before : p < q) (e : j ≡ level_at i p q top) where
+  best_at : IsBest i p q top j
+  best_at = rw e (best_there top i q walks.end p (record { multiple = walks.start; before = before }))
 
-pub overflow_add-result : goal.overflow_add-result
-overflow_add-result c = omega (arith, (best_at c).level, c.requires.0.there.scale)
+  level_there : IsLevel top i j
+  level_there = let there = walks.there in record { lowest = there.lowest; highest = there.highest; scale = there.scale; level = best_at.level }
 
-pub overflow_shr-result : goal.overflow_shr-result
-overflow_shr-result c = omega (arith, (best_at c).level, c.requires.0.there.scale)
+  walks_on : IsWalk top i (p + block_size i j) q
+  walks_on = record {
+    there = walks.there;
+    ordered = best_at.here.ends;
+    start = together (2 ^ i) p (block_size i j) walks.start (power_of_more i j);
+    end = walks.end;
+  }
+
+pub invariant_of-level : goal.invariant_of-level
+invariant_of-level c = level_there _ _ _ _ c.level_at.result c.requires.0 c.requires.1 c.level_at.ensures
 
 pub invariant_of-result : goal.invariant_of-result
-invariant_of-result c =
-    let there = c.requires.0.there in
-    record {
-      there = record { lowest = there.lowest; highest = there.highest; scale = there.scale; level = (best_at c).level };
-      first = omega (arith, div-mul-le_self c.args.place (block_size c.args.scale c.level_at-level.result));
-    }
+invariant_of-result c = record {
+  there = level_there _ _ _ _ c.level_at.result c.requires.0 c.requires.1 c.level_at.ensures;
+  first = rw c.exponent.ensures.value (omega (arith, div-mul-le_self c.args.place (block_size c.args.scale c.level_at.result)));
+}
 
 pub returns-clause-after : goal.returns-clause-after
-returns-clause-after c =
-    let walks = c.requires.0 in
-    record {
-      there = walks.there;
-      ordered = (best_at c).here.ends;
-      start = together (2 ^ c.args.scale) c.args.place (block_size c.args.scale c.level_at-level.result) walks.start (power_of_more c.args.scale c.level_at-level.result);
-      end = walks.end;
-    }
+returns-clause-after c = walks_on _ _ _ _ c.level_at.result c.requires.0 c.requires.1 c.level_at.ensures

@@ -1,10 +1,14 @@
-use Rattle.std.proofs.Common.{◌*◌, ap, sym}
+use Rattle.std.proofs.Common.{◌∙◌, ◌*◌, sym, ap, subst}
+use Rattle.layout.specs.Laws.{FillHeads}
 use Rattle.layout.proofs.Closed.{heads_of_scale}
-use Rattle.layout.proofs.Filling.{heads_filled}
+use Rattle.layout.proofs.Filling.{heads_end, heads_filled}
 use Rattle.layout.proofs.layout.Layout.heads.Goals as goal
 
+pub returns-clause-value : goal.returns-clause-value
+returns-clause-value c = let shape = c.args.self.now in rw (c.head.ensures.value, c.slots.ensures, c.last_level-last.ensures.value) (heads_end shape.top shape.scales c.last_level-last.ensures.some)
+
 pub returns-clause-sum : goal.returns-clause-sum
-returns-clause-sum c = rw (← c.self.view_is, c.scale_heads.ensures) (ap (λ n. c.self.inside.scales * n) (sym (heads_of_scale c.self.inside.top)))
+returns-clause-sum c = let shape = c.args.self.now in returns-clause-value c ∙ ap (λ n. shape.scales * n) (sym (heads_of_scale shape.top))
 
 pub returns-clause-filled : goal.returns-clause-filled
-returns-clause-filled c = rw (← c.self.view_is, c.scale_heads.ensures) (heads_filled _)
+returns-clause-filled c = let shape = c.args.self.now in subst (FillHeads shape) (sym (returns-clause-value c)) (heads_filled shape)

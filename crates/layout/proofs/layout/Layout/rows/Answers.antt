@@ -1,10 +1,14 @@
-use Rattle.std.proofs.Common.{◌*◌, ap, sym}
+use Rattle.std.proofs.Common.{◌∙◌, ◌*◌, sym, ap, subst}
+use Rattle.layout.specs.Laws.{FillRows}
 use Rattle.layout.proofs.Closed.{rows_of_scale}
-use Rattle.layout.proofs.Filling.{rows_filled}
+use Rattle.layout.proofs.Filling.{rows_end, rows_filled}
 use Rattle.layout.proofs.layout.Layout.rows.Goals as goal
 
+pub returns-clause-value : goal.returns-clause-value
+returns-clause-value c = let shape = c.args.self.now in rw (c.start.ensures.value, c.slots.ensures, c.rows.ensures, c.last_level-last.ensures.value) (rows_end shape.top shape.scales c.last_level-last.ensures.some)
+
 pub returns-clause-sum : goal.returns-clause-sum
-returns-clause-sum c = rw (← c.self.view_is, c.scale_rows.ensures) (ap (λ n. c.self.inside.scales * n) (sym (rows_of_scale c.self.inside.top)))
+returns-clause-sum c = let shape = c.args.self.now in returns-clause-value c ∙ ap (λ n. shape.scales * n) (sym (rows_of_scale shape.top))
 
 pub returns-clause-filled : goal.returns-clause-filled
-returns-clause-filled c = rw (← c.self.view_is, c.scale_rows.ensures) (rows_filled _)
+returns-clause-filled c = let shape = c.args.self.now in subst (FillRows shape) (sym (returns-clause-value c)) (rows_filled shape)

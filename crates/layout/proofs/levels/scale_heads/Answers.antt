@@ -1,6 +1,0 @@
-use Rattle.std.proofs.Common.{◌∙◌}
-use Rattle.layout.proofs.Closed.{heads_of_scale}
-use Rattle.layout.proofs.levels.scale_heads.Goals as goal
-
-pub returns : goal.returns
-returns c = c.heads_below.ensures ∙ heads_of_scale c.args.top
