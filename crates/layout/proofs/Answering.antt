@@ -1,5 +1,5 @@
 -- The blocks of a cover, and what they can answer for. Assumes nothing.
-use Rattle.std.proofs.Common.{◌≡◌, ℕ, zero, suc, ◌+◌, ◌-◌, ◌*◌, ◌/◌, ◌%◌, ◌^◌, ◌<◌, ◌≤◌, ⊎_elim, List, [], ◌∷◌, All, sum_by, ap, ◌∙◌, refl, arith, add-zero, add_comm, add-mul, suc-mul, mul-le-mul_right, lt_of_mul-lt-mul_right, div-add-mod'}
+use Rattle.std.proofs.Common.{subst, ◌≡◌, ℕ, zero, suc, ◌+◌, ◌-◌, ◌*◌, ◌/◌, ◌%◌, ◌^◌, ◌<◌, ◌≤◌, ⊎_elim, List, [], ◌∷◌, All, sum_by, ap, ◌∙◌, refl, arith, add-zero, add_comm, add-mul, suc-mul, mul-le-mul_right, lt_of_mul-lt-mul_right, div-add-mod'}
 use Rattle.std.proofs.lemmas.Bool.{cases_lt}
 use Rattle.std.proofs.lemmas.List.Elements.{All-nil, All-cons}
 use Rattle.std.proofs.lemmas.List.Sums.{sum_by-cons}
@@ -7,11 +7,10 @@ use Rattle.std.proofs.lemmas.Nat.{pow_pos, pow-add}
 use Rattle.layout.specs.Slots.{Shape, IsShape, block_size, slots_at}
 use Rattle.layout.specs.Blocks.{Stretch, size, first}
 use Rattle.layout.specs.Covers.{scale_of, start_of, end_of, level_at, walk_between, cover_of}
-use Rattle.layout.specs.Laws.{Adjacent, IsBlock, IsWindow, CanAnswer, IsLargest, IsCoverFrom}
+use Rattle.layout.specs.Laws.{AreEnds, Adjacent, IsBlock, IsWindow, CanAnswer, IsLargest, IsCoverFrom}
 use Rattle.layout.proofs.Few.{few_between}
 use Rattle.layout.proofs.Largest.{IsBest, best}
 use Rattle.layout.proofs.Multiples.{a_unit_apart, together, power_of_more}
-use Rattle.layout.proofs.Edges.{AreEnds}
 use Rattle.layout.proofs.Scales.{scale_right, scale_there}
 use Rattle.layout.proofs.Walks.{taken, after, walk_next, walk_end}
 
@@ -109,7 +108,7 @@ module _ (shape : Shape) (m n : ℕ) (is : IsShape shape.top shape.scales) (wind
         let top = shape.top in
         let covered = arrivals_covered shape m n i p q e in
         record {
-          ordered = e.ordered;
+          ends = subst (λ k. AreEnds k m n p q) scale e;
           adjacent = adjacent top i q e.end (q - p) p (omega (arith, e.ordered)) e.ordered e.start;
           there = each_taken top i q e.end (IsBlock shape) (q - p) p (omega (arith, e.ordered)) e.start (λ x from here. block_there x here);
           answer = each_taken top i q e.end (CanAnswer m n) (q - p) p (omega (arith, e.ordered)) e.start can_answer;

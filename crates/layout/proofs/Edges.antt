@@ -6,6 +6,7 @@ use Rattle.std.proofs.lemmas.Nat.{pow_pos, mod_below}
 use Rattle.std.specs.Int.{next_multiple_of}
 use Rattle.layout.specs.Slots.{Shape}
 use Rattle.layout.specs.Covers.{scale_of, start_of, end_of}
+use Rattle.layout.specs.Laws.{AreEnds}
 use Rattle.layout.proofs.Closed.{pow_mono}
 use Rattle.layout.proofs.Multiples.{a_unit_apart, together}
 use Rattle.layout.proofs.Scales.{smaller_short}
@@ -37,16 +38,6 @@ module _ (u : ℕ) (pos : 0 < u) where
       let next : next_multiple_of x u ≡ (x - x % u) + u = omega (arith, mod_below x u pos, (rounded_down x).below, div-add-mod' x u) in
       record { above = omega arith; near = omega (arith, mod_below x u pos); multiple = ap (λ n. n % u) next ∙ together u (x - x % u) u ((rounded_down x).multiple) (mod_self u) })
       (cases_eq (x % u) 0)
-
--- what is so of the two ends of a cover at scale i
-pub record AreEnds (i m n p q : ℕ) : Type 0 where
-  pub ordered : p ≤ q
-  pub from : m - n ≤ p
-  pub near : p < m - n + 2 ^ i
-  pub to : q ≤ m
-  pub close : m < q + 2 ^ i
-  pub start : p % 2 ^ i ≡ 0
-  pub end : q % 2 ^ i ≡ 0
 
 -- a smallest block is not longer than the window, but where it holds one arrival
 abbrev pub IsShort : ℕ → ℕ → Type 0

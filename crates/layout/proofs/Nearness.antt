@@ -7,9 +7,8 @@ use Rattle.std.proofs.lemmas.Nat.{pow_pos, pow-add, le-div}
 use Rattle.layout.specs.Slots.{Shape, block_size, rows_at}
 use Rattle.layout.specs.Blocks.{Stretch, size}
 use Rattle.layout.specs.Covers.{scale_of}
-use Rattle.layout.specs.Laws.{LosesLittle, IsNear}
+use Rattle.layout.specs.Laws.{AreEnds, LosesLittle, IsNear}
 use Rattle.layout.proofs.Closed.{rows_and_one}
-use Rattle.layout.proofs.Edges.{AreEnds}
 use Rattle.layout.proofs.Scales.{smaller_short}
 
 -- what a block may lose is its part of a smallest block

@@ -2,9 +2,9 @@
 use Rattle.std.proofs.Common.{◌≡◌, ℕ, ◌-◌, ap, ◌∙◌, subst, arith}
 use Rattle.layout.specs.Slots.{Shape, IsShape}
 use Rattle.layout.specs.Covers.{scale_of, start_of, end_of, walk_between}
-use Rattle.layout.specs.Laws.{IsWindow, IsCoverFrom, IsCover, IsNear}
+use Rattle.layout.specs.Laws.{AreEnds, IsWindow, IsCoverFrom, IsCover, IsNear}
 use Rattle.layout.proofs.Answering.{arrivals_covered, of_one_scale, cover_between}
-use Rattle.layout.proofs.Edges.{AreEnds, are_ends}
+use Rattle.layout.proofs.Edges.{are_ends}
 use Rattle.layout.proofs.Nearness.{is_near}
 
 module _ (shape : Shape) (m n i p q ignored : ℕ) (is : IsShape shape.top shape.scales) (scale : i ≡ scale_of shape n) (start : p ≡ start_of i m n) (end : q ≡ end_of i m) (left : ignored ≡ n - (q - p)) (window : IsWindow shape m n) where

@@ -42,6 +42,12 @@ pub record IsBlock (shape : Shape) (b : Stretch) : Type 0 where
   pub scale : b.scale < shape.scales
   pub level : b.level ≤ shape.top
 
+-- and one that arrival m falls into
+pub record IsVisit (shape : Shape) (m : ℕ) (b : Stretch) : Type 0 where
+  pub there : IsBlock shape b
+  pub from : first b ≤ m
+  pub below : m < first b + size b
+
 -- the longest windows
 abbrev pub longest : Shape → ℕ
 longest shape = 2 ^ (shape.top + (shape.scales - 1))
@@ -56,6 +62,16 @@ pub record IsScaleFor (shape : Shape) (n i : ℕ) : Type 0 where
   pub there : i < shape.scales
   pub long : n ≤ 2 ^ (shape.top + i)
   pub least : (h : ℕ) → h < i → 2 ^ (shape.top + h) < n
+
+-- p and q are the first and the last multiple of a smallest block of scale i that there is from the beginning to the end of the newest n of m arrivals
+pub record AreEnds (i m n p q : ℕ) : Type 0 where
+  pub ordered : p ≤ q
+  pub from : m - n ≤ p
+  pub near : p < m - n + 2 ^ i
+  pub to : q ≤ m
+  pub close : m < q + 2 ^ i
+  pub start : p % 2 ^ i ≡ 0
+  pub end : q % 2 ^ i ≡ 0
 
 -- blocks one behind the other, from arrival p to arrival q
 abbrev pub Adjacent : ℕ → ℕ → List Stretch → Type 0
@@ -74,7 +90,7 @@ IsLargest q b = (j : ℕ) → b.level < j → j ≤ b.top → fits b.scale (firs
 
 -- blocks from p to q, and so many ignored arrivals, are a cover of the newest n of m arrivals
 pub record IsCoverFrom (shape : Shape) (m n p q : ℕ) (blocks : List Stretch) (ignored : ℕ) : Type 0 where
-  pub ordered : p ≤ q
+  pub ends : AreEnds (scale_of shape n) m n p q
   pub adjacent : Adjacent p q blocks
   pub there : All (IsBlock shape) blocks
   pub answer : All (CanAnswer m n) blocks

@@ -5,7 +5,7 @@ ghost use Rattle.std.specs.Prelude.{◌≡◌, ◌+◌, ◌-◌, ◌*◌, ◌^�
 ghost use Rattle.layout.specs.Blocks.{visits_of};
 ghost use Rattle.layout.specs.Cases.{Needs, Ninety, Seventeen};
 ghost use Rattle.layout.specs.Covers.{cover_of, end_of, ignored_of, scale_of, start_of};
-ghost use Rattle.layout.specs.Laws.{FillHeads, FillRows, IsBlock, IsCover, IsNear, IsScaleFor, IsWindow, longest};
+ghost use Rattle.layout.specs.Laws.{FillHeads, FillRows, IsCover, IsNear, IsScaleFor, IsVisit, IsWindow, longest};
 ghost use Rattle.layout.specs.Slots.{heads_below, last_of, rows_below, scale_heads, scale_rows, shape_of};
 
 use crate::cover::Cover;
@@ -64,8 +64,8 @@ impl Layout {
         ensures sum { result ≡ self.now.scales * heads_below self.now.top (self.now.top + 1) }
         ensures filled { FillHeads self.now result }
     {
-        let last = self.last_level();
-        last.head() + last.slots() as usize
+        let level = self.last_level();
+        level.head() + level.slots() as usize
     }
 
     // The last level of the last scale: behind its slots there are none.
@@ -91,7 +91,7 @@ impl Layout {
     /// The blocks that an arrival falls into: one at each level of each scale, by scale and then by level.
     pub fn visits(&self, arrival: u32) -> Visits
         ensures value { result ≡ visits_of self.now arrival }
-        ensures there { All (IsBlock self.now) result }
+        ensures right { All (IsVisit self.now arrival) result }
     {
         Visits {
             top: self.top,

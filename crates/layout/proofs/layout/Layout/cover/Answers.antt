@@ -2,8 +2,9 @@ use Rattle.std.proofs.Common.{◌≡◌, ◌+◌, ◌≤◌, ℕ, ap, refl, sum_
 use Rattle.layout.specs.Slots.{IsShape, Shape}
 use Rattle.layout.specs.Blocks.{size}
 use Rattle.layout.specs.Covers.{scale_of, start_of, end_of}
+use Rattle.layout.specs.Laws.{AreEnds}
 use Rattle.layout.proofs.Answering.{arrivals_covered, cover_found}
-use Rattle.layout.proofs.Edges.{AreEnds, are_ends}
+use Rattle.layout.proofs.Edges.{are_ends}
 use Rattle.layout.proofs.Scales.{scale_there, scale_found}
 use Rattle.layout.proofs.Whole.{cover_right, cover_near}
 use Rattle.layout.proofs.layout.Layout.cover.Goals as goal
