@@ -2,8 +2,8 @@
 use Rattle.std.proofs.Common.{◌≡◌, ℕ, zero, suc, ◌+◌, ◌-◌, ◌*◌, ◌/◌, ◌%◌, ◌<◌, ◌≤◌, ◌⊎◌, ⊎_elim, subst, ap, arith, suc-mul, mul-le-mul_right, div-add-mod', mul-zero, mul-one, add-one, sym, ◌∙◌}
 use Rattle.std.proofs.lemmas.Bool.{cases_order, cases_lt, cases_eq}
 use Rattle.std.proofs.lemmas.Nat.{div_below, mod_below}
-use Rattle.layout.specs.Slots.{Shape, slots_at, rows_at, places_below, rows_below, heads_below, scale_rows, scale_heads}
-use Rattle.layout.specs.Laws.{HasPlace, Fill, FillRows, FillHeads}
+use Rattle.layout.specs.Slots.{Shape, slots_at, rows_at, cells_below, rows_below, heads_below, scale_rows, scale_heads}
+use Rattle.layout.specs.Laws.{HasCell, Fill, FillRows, FillHeads}
 use Rattle.layout.proofs.Closed.{rows_of_scale, heads_of_scale}
 
 -- part i of n parts ends by their end
@@ -11,7 +11,7 @@ pub part_end : (i n width : ℕ) → i < n → i * width + width ≤ n * width
 part_end i n width h = omega (arith, suc-mul i width, mul-le-mul_right {m = suc i} {n = n} width h)
 
 module _ (each : ℕ → ℕ) (top : ℕ) where
-  pub below_mono : (i j : ℕ) → i ≤ j → places_below each top i ≤ places_below each top j
+  pub below_mono : (i j : ℕ) → i ≤ j → cells_below each top i ≤ cells_below each top j
   below_mono i zero h = let e : i ≡ 0 = omega arith in rw e (omega arith)
   below_mono i (suc j) h = ⊎_elim
       (λ (e : i ≡ suc j). rw e (omega arith))
@@ -19,36 +19,36 @@ module _ (each : ℕ → ℕ) (top : ℕ) where
       (cases_order i (suc j))
 
   -- a slot ends by the end of its level
-  level_end : (j s : ℕ) → s < slots_at top j → places_below each top j + s * each j + each j ≤ places_below each top (suc j)
+  level_end : (j s : ℕ) → s < slots_at top j → cells_below each top j + s * each j + each j ≤ cells_below each top (suc j)
   level_end j s h = omega (arith, part_end s (slots_at top j) (each j) h)
 
-  -- the level that a place below level n is in
+  -- the level that a cell below level n is in
   record InLevel (n x : ℕ) : Type 0 where
     pub level : ℕ
     pub there : level < n
-    pub from : places_below each top level ≤ x
-    pub below : x < places_below each top (suc level)
+    pub from : cells_below each top level ≤ x
+    pub below : x < cells_below each top (suc level)
 
-  in_level : (n x : ℕ) → x < places_below each top n → InLevel n x
+  in_level : (n x : ℕ) → x < cells_below each top n → InLevel n x
   in_level zero x h = absurd (omega arith)
   in_level (suc n) x h = ⊎_elim
-      (λ (u : x < places_below each top n). let l = in_level n x u in record { level = l.level; there = omega (arith, l.there); from = l.from; below = l.below })
-      (λ (u : places_below each top n ≤ x). record { level = n; there = omega arith; from = u; below = h })
-      (cases_lt x (places_below each top n))
+      (λ (u : x < cells_below each top n). let l = in_level n x u in record { level = l.level; there = omega (arith, l.there); from = l.from; below = l.below })
+      (λ (u : cells_below each top n ≤ x). record { level = n; there = omega arith; from = u; below = h })
+      (cases_lt x (cells_below each top n))
 
-module _ (each : ℕ → ℕ) (top whole : ℕ) (all : places_below each top (top + 1) ≡ whole) where
+module _ (each : ℕ → ℕ) (top whole : ℕ) (all : cells_below each top (top + 1) ≡ whole) where
   -- where slot s of level j of scale i begins
   abbrev pub start : ℕ → ℕ → ℕ → ℕ
-  start i j s = i * whole + places_below each top j + s * each j
+  start i j s = i * whole + cells_below each top j + s * each j
 
   -- a level ends by the end of so many scales, and so does each of its slots
-  pub level_by : (n i j : ℕ) → i < n → j ≤ top → i * whole + places_below each top (suc j) ≤ n * whole
+  pub level_by : (n i j : ℕ) → i < n → j ≤ top → i * whole + cells_below each top (suc j) ≤ n * whole
   level_by n i j hi hj = omega (arith, all, below_mono each top (suc j) (top + 1) (omega arith), part_end i n whole hi)
 
   slot_by : (n i j s : ℕ) → i < n → j ≤ top → s < slots_at top j → start i j s + each j ≤ n * whole
   slot_by n i j s hi hj hs = omega (arith, level_end each top j s hs, level_by n i j hi hj)
 
-  -- a place of two slots: neither of them comes before the other
+  -- a cell of two slots: neither of them comes before the other
   same_scale : (x i j s i' j' s' : ℕ) → j ≤ top → s < slots_at top j → x < start i j s + each j → start i' j' s' ≤ x → i' ≤ i
   same_scale x i j s i' j' s' hj hs below from = ⊎_elim
       (λ (u : i < i'). absurd (omega (arith, slot_by i' i j s u hj hs)))
@@ -67,9 +67,9 @@ module _ (each : ℕ → ℕ) (top whole : ℕ) (all : places_below each top (to
       (λ (u : s' ≤ s). u)
       (cases_lt s s')
 
-module _ (each : ℕ → ℕ) (shape : Shape) (whole : ℕ) (all : places_below each shape.top (shape.top + 1) ≡ whole) where
-  -- a place is one slot's alone
-  only : (x i j s i' j' s' : ℕ) → HasPlace (start each shape.top whole all) each shape x i j s → HasPlace (start each shape.top whole all) each shape x i' j' s' → (i' ≡ i) × (j' ≡ j) × (s' ≡ s)
+module _ (each : ℕ → ℕ) (shape : Shape) (whole : ℕ) (all : cells_below each shape.top (shape.top + 1) ≡ whole) where
+  -- a cell is one slot's alone
+  only : (x i j s i' j' s' : ℕ) → HasCell (start each shape.top whole all) each shape x i j s → HasCell (start each shape.top whole all) each shape x i' j' s' → (i' ≡ i) × (j' ≡ j) × (s' ≡ s)
   only x i j s i' j' s' h h' =
       let top = shape.top in
       let scale : i' ≡ i = omega (
@@ -77,13 +77,13 @@ module _ (each : ℕ → ℕ) (shape : Shape) (whole : ℕ) (all : places_below 
         same_scale each top whole all x i j s i' j' s' h.there.level h.there.slot h.below h'.from,
         same_scale each top whole all x i' j' s' i j s h'.there.level h'.there.slot h'.below h.from,
       ) in
-      let at = subst (λ n. HasPlace (start each top whole all) each shape x n j' s') scale h' in
+      let at = subst (λ n. HasCell (start each top whole all) each shape x n j' s') scale h' in
       let level : j' ≡ j = omega (
         arith,
         same_level each top whole all x i j s j' s' h.there.slot h.below at.from,
         same_level each top whole all x i j' s' j s at.there.slot at.below h.from,
       ) in
-      let on = subst (λ n. HasPlace (start each top whole all) each shape x i n s') level at in (
+      let on = subst (λ n. HasCell (start each top whole all) each shape x i n s') level at in (
         scale,
         level,
         omega (
@@ -102,12 +102,12 @@ module _ (each : ℕ → ℕ) (shape : Shape) (whole : ℕ) (all : places_below 
         let i = x / whole in
         let split = div-add-mod' x whole in
         let l = in_level each shape.top (shape.top + 1) (x % whole) (omega (arith, all, mod_below x whole pos)) in
-        let left = x % whole - places_below each shape.top l.level in
+        let left = x % whole - cells_below each shape.top l.level in
         let inside : left < slots_at shape.top l.level * each l.level = omega (arith, l.below, l.from) in
         let some : 0 < each l.level = ⊎_elim (λ (z : each l.level ≡ 0). absurd (omega (arith, inside, ap (λ w. slots_at shape.top l.level * w) z, mul-zero (slots_at shape.top l.level)))) (λ (n : each l.level ≡ 0 → ⊥). omega arith) (cases_eq (each l.level) 0) in
         let s = left / each l.level in
         let cut = div-add-mod' left (each l.level) in
-        let here : HasPlace (start each shape.top whole all) each shape x i l.level s = record {
+        let here : HasCell (start each shape.top whole all) each shape x i l.level s = record {
           there = record { scale = div_below x whole shape.scales pos h; level = omega (arith, l.there); slot = div_below left (each l.level) (slots_at shape.top l.level) some inside };
           from = omega (arith, split, cut, l.from);
           below = omega (arith, split, cut, l.from, mod_below left (each l.level) some);

@@ -1,4 +1,4 @@
--- No place of the layout is large. Assumes nothing.
+-- No cell of the layout has a large number. Assumes nothing.
 use Rattle.std.proofs.Common.{ℕ, ◌+◌, ◌-◌, ◌*◌, ◌^◌, ◌<◌, ◌≤◌, arith}
 use Rattle.std.proofs.lemmas.Nat.{mul-le}
 use Rattle.layout.specs.Inside.{IsLevel}

@@ -3,7 +3,7 @@
 -- Arrivals are numbered from 0, in the order in which they came. Block b of a level holds as many arrivals in a row as a block of that level does, b such blocks having come before it.
 use Rattle.std.specs.Prelude.{ℕ, ◌+◌, ◌-◌, ◌*◌, ◌/◌, ◌%◌, if◌then◌else◌, List, [], ◌++◌, map, flat_map, nat_lt}
 use Rattle.std.specs.List.{range_with_len}
-use Rattle.layout.specs.declared.slot.Slot.{Slot}
+use Rattle.layout.specs.declared.place.Place.{Place}
 use Rattle.layout.specs.Slots.{Shape, block_size, slots_at, slot_at}
 
 -- a block of a level of a scale, in a ladder whose last level is `top`
@@ -21,7 +21,7 @@ abbrev pub first : Stretch → ℕ
 first b = b.number * size b
 
 -- the slot that it uses: a level's blocks take its slots in turn
-abbrev pub slot_of : Stretch → Slot
+abbrev pub slot_of : Stretch → Place
 slot_of b = slot_at b.top b.scale b.level (b.number % slots_at b.top b.level)
 
 -- the block of level j of scale i that arrival m falls into

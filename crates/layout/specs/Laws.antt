@@ -10,8 +10,8 @@ pub record IsSlot (shape : Shape) (i j s : ℕ) : Type 0 where
   pub level : j ≤ shape.top
   pub slot : s < slots_at shape.top j
 
--- place x of a table is one of that slot's, which has `each j` places from `start i j s` on
-pub record HasPlace (start : ℕ → ℕ → ℕ → ℕ) (each : ℕ → ℕ) (shape : Shape) (x i j s : ℕ) : Type 0 where
+-- cell x of a table is one of that slot's, which has `each j` cells from `start i j s` on
+pub record HasCell (start : ℕ → ℕ → ℕ → ℕ) (each : ℕ → ℕ) (shape : Shape) (x i j s : ℕ) : Type 0 where
   pub there : IsSlot shape i j s
   pub from : start i j s ≤ x
   pub below : x < start i j s + each j
@@ -24,10 +24,10 @@ pub record JustOne (P : ℕ → ℕ → ℕ → Type 0) : Type 0 where
   pub holds : P scale level slot
   pub only : (i j s : ℕ) → P i j s → (i ≡ scale) × (j ≡ level) × (s ≡ slot)
 
--- the slots fill so many places: each is one slot's and no other's, and no slot goes beyond them
-pub record Fill (start : ℕ → ℕ → ℕ → ℕ) (each : ℕ → ℕ) (shape : Shape) (places : ℕ) : Type 0 where
-  pub once : (x : ℕ) → x < places → JustOne (HasPlace start each shape x)
-  pub within : (i j s : ℕ) → IsSlot shape i j s → start i j s + each j ≤ places
+-- the slots fill so many cells: each is one slot's and no other's, and no slot goes beyond them
+pub record Fill (start : ℕ → ℕ → ℕ → ℕ) (each : ℕ → ℕ) (shape : Shape) (cells : ℕ) : Type 0 where
+  pub once : (x : ℕ) → x < cells → JustOne (HasCell start each shape x)
+  pub within : (i j s : ℕ) → IsSlot shape i j s → start i j s + each j ≤ cells
 
 -- their rows and their heads do
 abbrev pub FillRows : Shape → ℕ → Type 0
@@ -84,7 +84,7 @@ pub record CanAnswer (m n : ℕ) (b : Stretch) : Type 0 where
   pub complete : first b + size b ≤ m
   pub kept : (c : ℕ) → b.number < c → c * size b < m → c % slots_at b.top b.level ≢ b.number % slots_at b.top b.level
 
--- no larger block could have started in its place and ended by arrival q
+-- no larger block could have started where it starts and ended by arrival q
 abbrev pub IsLargest : ℕ → Stretch → Type 0
 IsLargest q b = (j : ℕ) → b.level < j → j ≤ b.top → fits b.scale (first b) q j ≡ false
 

@@ -2,7 +2,7 @@
 --
 -- `top` is the number of a scale's last level: the accuracy and 3 more. Scales are counted from 0: scale i answers for windows of up to 2^(top + i) keys, and its smallest blocks hold 2^i arrivals each.
 use Rattle.std.specs.Prelude.{ℕ, zero, suc, ◌+◌, ◌-◌, ◌*◌, ◌^◌, ◌≤◌}
-use Rattle.layout.specs.declared.slot.Slot.{Slot}
+use Rattle.layout.specs.declared.place.Place.{Place}
 
 -- the levels and scales of a ladder
 pub record Shape : Type 0 where
@@ -49,20 +49,20 @@ scale_rows top = (top + 1) ^ 2 * 2 ^ top + top * 2 ^ (top + 1) - (2 * top + 1)
 abbrev pub scale_heads : ℕ → ℕ
 scale_heads top = 2 ^ (top + 1) + top
 
--- what the levels below j take of a table, where each slot of a level takes so many places: level after level, and in each slot after slot
-abbrev pub places_below : (ℕ → ℕ) → ℕ → ℕ → ℕ
-places_below each top zero = 0
-places_below each top (suc j) = places_below each top j + slots_at top j * each j
+-- what the levels below j take of a table, where each slot of a level takes so many cells: level after level, and in each slot after slot
+abbrev pub cells_below : (ℕ → ℕ) → ℕ → ℕ → ℕ
+cells_below each top zero = 0
+cells_below each top (suc j) = cells_below each top j + slots_at top j * each j
 
 -- the rows and the heads of the levels below j of one scale: a slot has one head
 abbrev pub rows_below : ℕ → ℕ → ℕ
-rows_below top j = places_below (rows_at top) top j
+rows_below top j = cells_below (rows_at top) top j
 
 abbrev pub heads_below : ℕ → ℕ → ℕ
-heads_below top j = places_below (λ j. 1) top j
+heads_below top j = cells_below (λ j. 1) top j
 
 -- slot s of level j of scale i
-abbrev pub slot_at : ℕ → ℕ → ℕ → ℕ → Slot
+abbrev pub slot_at : ℕ → ℕ → ℕ → ℕ → Place
 slot_at top i j s = record {
   start = i * scale_rows top + rows_below top j + s * rows_at top j;
   rows = rows_at top j;

@@ -3,7 +3,7 @@
 ghost use Rattle.std.specs.Prelude.{◌≡◌};
 
 use crate::level::Level;
-use crate::slot::Slot;
+use crate::place::Place;
 use std::marker::Model;
 
 /// A block: of a level of a scale, and which of that level's blocks it is, counted from the first arrival on.
@@ -43,16 +43,16 @@ impl Block {
         1 << self.level.exponent()
     }
 
-    /// The slot that it uses.
-    pub fn slot(&self) -> Slot
+    /// Where the slot lies that it uses.
+    pub fn place(&self) -> Place
         ensures { result ≡ slot_of self.now }
     {
-        let place = (self.number % self.level.slots()) as usize;
+        let turn = (self.number % self.level.slots()) as usize;
         let rows = self.level.rows();
-        Slot {
-            start: self.level.start() + place * rows,
+        Place {
+            start: self.level.start() + turn * rows,
             rows,
-            head: self.level.head() + place,
+            head: self.level.head() + turn,
         }
     }
 }

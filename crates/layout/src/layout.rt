@@ -118,7 +118,7 @@ impl Layout {
             blocks: Walk {
                 top,
                 scale,
-                place: start,
+                position: start,
                 end,
             },
             ignored: window - (end - start),

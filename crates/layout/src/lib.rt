@@ -5,14 +5,14 @@ mod block;
 mod cover;
 mod layout;
 mod level;
-mod slot;
+mod place;
 mod visits;
 mod walk;
 
 pub use block::Block;
 pub use cover::Cover;
 pub use layout::Layout;
-pub use slot::Slot;
+pub use place::Place;
 pub use visits::Visits;
 pub use walk::Walk;
 

@@ -56,7 +56,7 @@ fn slots_of_an_arrival(rt: HostRuntime) -> Result<(), Fail> {
             panic!(rt; "a level is missing");
         };
         assert_eq!(rt; (block.first(), block.size()), (first, size));
-        assert_eq!(rt; block.slot(), Slot { start, rows, head });
+        assert_eq!(rt; block.place(), Place { start, rows, head });
     }
     assert_eq!(rt; blocks.next(), None);
     Ok(())

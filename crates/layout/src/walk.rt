@@ -14,7 +14,7 @@ use std::marker::Model;
 pub struct Walk {
     pub(crate) top: u32,
     pub(crate) scale: u32,
-    pub(crate) place: u32,
+    pub(crate) position: u32,
     pub(crate) end: u32,
 }
 
@@ -26,38 +26,38 @@ impl Model for Walk {
 
     ghost Value = { List Stretch };
 
-    ghost view = { λ w. walk_between w.top w.scale w.place w.end };
+    ghost view = { λ w. walk_between w.top w.scale w.position w.end };
 
-    ghost invariant = { λ w. IsWalk w.top w.scale w.place w.end };
+    ghost invariant = { λ w. IsWalk w.top w.scale w.position w.end };
 }
 
-// The largest level whose block can start at a place and ends by another: no more zeros stand behind the place's number in
+// The largest level whose block can start at a position and ends by another: no more zeros stand behind the position in
 // binary, and it is not longer than what is left.
-fn level_at(scale: u32, place: u32, end: u32, top: u32) -> u32
-    requires { (place < end) × (top + scale ≤ 20) }
-    ensures { result ≡ level_at scale place end top }
+fn level_at(scale: u32, position: u32, end: u32, top: u32) -> u32
+    requires { (position < end) × (top + scale ≤ 20) }
+    ensures { result ≡ level_at scale position end top }
 {
-    place
+    position
         .trailing_zeros()
-        .min((end - place).ilog2())
+        .min((end - position).ilog2())
         .saturating_sub(scale)
         .min(top)
 }
 
-// The largest block that can start at a place and ends by another.
-fn block_at(top: u32, scale: u32, place: u32, end: u32) -> Block
-    requires { IsWalk top scale place end × place < end }
-    ensures value { result ≡ block_of top place scale (level_at scale place end top) }
-    ensures after { IsWalk top scale (place + size result) end }
+// The largest block that can start at a position and ends by another.
+fn block_at(top: u32, scale: u32, position: u32, end: u32) -> Block
+    requires { IsWalk top scale position end × position < end }
+    ensures value { result ≡ block_of top position scale (level_at scale position end top) }
+    ensures after { IsWalk top scale (position + size result) end }
 {
     let level = Level {
         top,
         scale,
-        number: level_at(scale, place, end, top),
+        number: level_at(scale, position, end, top),
     };
     Block {
         level,
-        number: place >> level.exponent(),
+        number: position >> level.exponent(),
     }
 }
 
@@ -71,11 +71,11 @@ impl Iterator for Walk {
     ghost remaining = { item_count (λ w. w) };
 
     fn next(&mut self) -> Option<Block> {
-        if self.place >= self.end {
+        if self.position >= self.end {
             return None;
         }
-        let block = block_at(self.top, self.scale, self.place, self.end);
-        self.place += block.size();
+        let block = block_at(self.top, self.scale, self.position, self.end);
+        self.position += block.size();
         Some(block)
     }
 }

@@ -40,7 +40,7 @@ pub(crate) fn is_block_of(block: &Block, level: &Level, arrival: u32) -> bool {
         .unwrap_or(0);
     let begins = number.saturating_mul(level.size);
     let there = match level.slots.get(place) {
-        Some(slot) => *slot == block.slot(),
+        Some(slot) => *slot == block.place(),
         None => false,
     };
     block.size() == level.size && block.first() == begins && there

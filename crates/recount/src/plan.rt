@@ -1,13 +1,13 @@
 //! The slots of a setting, counted out.
 
-use layout::Slot;
+use layout::Place;
 use std::alloc::{AllocError, Global};
 
 // A level: how many arrivals its blocks hold, and its slots.
 #[derive(Drop)]
 pub(crate) struct Level {
     pub(crate) size: u32,
-    pub(crate) slots: Vec<Slot>,
+    pub(crate) slots: Vec<Place>,
 }
 
 // The levels of all scales in order, how many each scale has, and the rows and heads of them all.
@@ -50,12 +50,12 @@ impl Plan {
     }
 
     // The next slots, of a level: in as many rows and heads as they need.
-    fn count_out(&mut self, level: u32, heap: Global) -> Result<Vec<Slot>, AllocError> {
+    fn count_out(&mut self, level: u32, heap: Global) -> Result<Vec<Place>, AllocError> {
         let blocks = doubled(1, self.top.saturating_sub(level));
         let rows = doubled(self.top.saturating_add(1), level).saturating_sub(1) as usize;
         let mut slots = Vec::new(heap);
         for _ in 0..blocks.saturating_add(1) {
-            slots.push(Slot {
+            slots.push(Place {
                 start: self.rows,
                 rows,
                 head: self.heads,

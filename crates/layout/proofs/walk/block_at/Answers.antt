@@ -29,7 +29,7 @@ invariant_of-level c = level_there _ _ _ _ c.level_at.result c.requires.0 c.requ
 pub invariant_of-result : goal.invariant_of-result
 invariant_of-result c = record {
   there = level_there _ _ _ _ c.level_at.result c.requires.0 c.requires.1 c.level_at.ensures;
-  first = rw c.exponent.ensures.value (omega (arith, div-mul-le_self c.args.place (block_size c.args.scale c.level_at.result)));
+  first = rw c.exponent.ensures.value (omega (arith, div-mul-le_self c.args.position (block_size c.args.scale c.level_at.result)));
 }
 
 pub returns-clause-after : goal.returns-clause-after

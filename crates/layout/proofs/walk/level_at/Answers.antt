@@ -7,7 +7,7 @@ use Rattle.layout.proofs.walk.level_at.Goals as goal
 pub returns : goal.returns
 returns c =
     let i = c.args.scale in
-    let p = c.args.place in
+    let p = c.args.position in
     let q = c.args.end in
     sym (level_is i p q c.args.top c.min-2.result (omega arith)
     (λ some. record {

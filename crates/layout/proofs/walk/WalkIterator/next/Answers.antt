@@ -5,7 +5,7 @@ use Rattle.layout.proofs.walk.WalkIterator.next.Goals as goal
 pub returns-clause-steps : goal.returns-clause-steps
 returns-clause-steps c =
     let w = c.self.inside in
-    sym c.self.view_is ∙ walk_step w.top w.scale w.end w.place c.size.result c.block_at-block.result c.if-self.false c.block_at-block.ensures.value c.size.ensures
+    sym c.self.view_is ∙ walk_step w.top w.scale w.end w.position c.size.result c.block_at-block.result c.if-self.false c.block_at-block.ensures.value c.size.ensures
 
 pub returns-clause-goes : goal.returns-clause-goes
 returns-clause-goes c =
