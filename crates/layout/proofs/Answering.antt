@@ -1,15 +1,16 @@
 -- The blocks of a cover, and what they can answer for. Assumes nothing.
-use Rattle.std.proofs.Common.{subst, ◌≡◌, ℕ, zero, suc, ◌+◌, ◌-◌, ◌*◌, ◌/◌, ◌%◌, ◌^◌, ◌<◌, ◌≤◌, ⊎_elim, List, [], ◌∷◌, All, sum_by, ap, ◌∙◌, refl, arith, add-zero, add_comm, add-mul, suc-mul, mul-le-mul_right, lt_of_mul-lt-mul_right, div-add-mod'}
-use Rattle.std.proofs.lemmas.Bool.{cases_lt}
+use Rattle.std.proofs.Common.{sym, subst, ◌≡◌, ℕ, zero, suc, ◌+◌, ◌-◌, ◌*◌, ◌/◌, ◌%◌, ◌^◌, ◌<◌, ◌≤◌, ⊎_elim, List, [], ◌∷◌, All, sum_by, ap, ◌∙◌, refl, arith, add-zero, add_comm, add-mul, suc-mul, mul-le-mul_right, lt_of_mul-lt-mul_right, div-add-mod'}
+use Rattle.std.proofs.lemmas.Bool.{cases_lt, both_ways}
 use Rattle.std.proofs.lemmas.List.Elements.{All-nil, All-cons}
 use Rattle.std.proofs.lemmas.List.Sums.{sum_by-cons}
 use Rattle.std.proofs.lemmas.Nat.{pow_pos, pow-add}
 use Rattle.layout.specs.Slots.{Shape, IsShape, block_size, slots_at}
 use Rattle.layout.specs.Blocks.{Stretch, size, first}
-use Rattle.layout.specs.Covers.{scale_of, start_of, end_of, level_at, walk_between, cover_of}
+use Rattle.layout.specs.Covers.{fits, scale_of, start_of, end_of, level_at, walk_between, cover_of}
 use Rattle.layout.specs.Laws.{AreEnds, Adjacent, IsBlock, IsWindow, CanAnswer, IsLargest, IsCoverFrom}
 use Rattle.layout.proofs.Few.{few_between}
-use Rattle.layout.proofs.Largest.{IsBest, best}
+use Rattle.layout.proofs.Largest.{IsBest, best, fits_from}
+use Rattle.layout.proofs.Filling.{same_turn}
 use Rattle.layout.proofs.Multiples.{a_unit_apart, together, power_of_more}
 use Rattle.layout.proofs.Scales.{scale_right, scale_there}
 use Rattle.layout.proofs.Walks.{taken, after, walk_next, walk_end}
@@ -82,7 +83,7 @@ module _ (shape : Shape) (m n : ℕ) (is : IsShape shape.top shape.scales) (wind
     block_there : (x : ℕ) → IsPlace shape.top i q e.end x → IsBlock shape (taken shape.top i q x)
     block_there x here = record { top = refl; scale = omega (arith, scale, scale_there shape n is.some); level = (best_there shape.top i q e.end x here).level }
 
-    can_answer : (x : ℕ) → p ≤ x → IsPlace shape.top i q e.end x → CanAnswer m n (taken shape.top i q x)
+    can_answer : (x : ℕ) → p ≤ x → IsPlace shape.top i q e.end x → CanAnswer shape m n (taken shape.top i q x)
     can_answer x from here =
         let top = shape.top in
         let b = best_there top i q e.end x here in
@@ -91,16 +92,29 @@ module _ (shape : Shape) (m n : ℕ) (is : IsShape shape.top shape.scales) (wind
         record {
           inside = omega (arith, at, e.from);
           complete = omega (arith, at, b.here.ends, e.to);
-          kept = λ c later begun.
+          kept = λ c isc same begun. ⊎_elim
+              (λ (later : first (taken top i q x) < first c).
               let number = x / block_size i j in
+              let turn = same_turn shape (taken top i q x) c (block_there x here) isc same in
+              let long_by_level : size c ≡ block_size i j = (λ t. 2 ^ (turn.0 t + turn.1 t)) in
+              let starts : first c ≡ c.number * block_size i j = ap (λ k. c.number * k) long_by_level in
               let split : top + i ≡ (top - j) + (i + j) = omega (arith, b.level) in
               let long_by : n ≤ 2 ^ (top - j) * block_size i j = omega (arith, long, ap (λ k. 2 ^ k) split, pow-add 2 (top - j) (i + j)) in
-              let less : c < number + 2 ^ (top - j) = lt_of_mul-lt-mul_right (block_size i j) (omega (arith, begun, at, e.from, long_by, add-mul number (2 ^ (top - j)) (block_size i j))) in
-              remainders_apart number c (slots_at top j) later (omega (arith, less));
+              let more : number < c.number = lt_of_mul-lt-mul_right (block_size i j) (omega (arith, later, starts)) in
+              let less : c.number < number + 2 ^ (top - j) = lt_of_mul-lt-mul_right (block_size i j) (omega (arith, begun, starts, at, e.from, long_by, add-mul number (2 ^ (top - j)) (block_size i j))) in
+              absurd (remainders_apart number c.number (slots_at top j) more (omega (arith, less)) (sym (ap (λ k. c.number % slots_at top k) turn.1) ∙ turn.2)))
+              (λ (not_later : first c ≤ first (taken top i q x)). not_later)
+              (cases_lt (first (taken top i q x)) (first c));
         }
 
     largest_there : (x : ℕ) → IsPlace shape.top i q e.end x → IsLargest q (taken shape.top i q x)
-    largest_there x here = λ j above le. rw (first_taken shape.top i q e.end x here) ((best_there shape.top i q e.end x here).above j above le)
+    largest_there x here = λ j above le multiple.
+        let best = best_there shape.top i q e.end x here in
+        let at = first_taken shape.top i q e.end x here in
+        ⊎_elim
+        (λ (u : q < x + block_size i j). omega (arith, u, at))
+        (λ (u : x + block_size i j ≤ q). absurd (both_ways (fits i x q j) (best.above j above le) (fits_from i x q j (record { multiple = ap (λ k. k % block_size i j) (sym at) ∙ multiple; ends = u }))))
+        (cases_lt q (x + block_size i j))
 
     -- all that is so of the cover between these ends
     pub cover_between : (ignored : ℕ) → ignored ≡ n - sum_by size (walk_between shape.top i p q) → IsCoverFrom shape m n p q (walk_between shape.top i p q) ignored
@@ -111,7 +125,8 @@ module _ (shape : Shape) (m n : ℕ) (is : IsShape shape.top shape.scales) (wind
           ends = subst (λ k. AreEnds k m n p q) scale e;
           adjacent = adjacent top i q e.end (q - p) p (omega (arith, e.ordered)) e.ordered e.start;
           there = each_taken top i q e.end (IsBlock shape) (q - p) p (omega (arith, e.ordered)) e.start (λ x from here. block_there x here);
-          answer = each_taken top i q e.end (CanAnswer m n) (q - p) p (omega (arith, e.ordered)) e.start can_answer;
+          one_scale = each_taken top i q e.end (λ b. b.scale ≡ scale_of shape n) (q - p) p (omega (arith, e.ordered)) e.start (λ x from here. scale);
+          answer = each_taken top i q e.end (CanAnswer shape m n) (q - p) p (omega (arith, e.ordered)) e.start can_answer;
           largest = each_taken top i q e.end (IsLargest q) (q - p) p (omega (arith, e.ordered)) e.start (λ x from here. largest_there x here);
           few = omega (arith, few_between top i q e.end p e.start (omega (arith, e.to, e.from, long, ap (λ k. 2 ^ k) (add_comm top i))));
           whole = omega (arith, left, covered, e.from, e.to, e.ordered);

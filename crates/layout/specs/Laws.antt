@@ -1,40 +1,9 @@
 -- What the layout and the cover are good for. Assumes nothing.
-use Rattle.std.specs.Prelude.{◌≡◌, ℕ, ◌+◌, ◌-◌, ◌*◌, ◌%◌, ◌^◌, ◌<◌, ◌≤◌, ◌≢◌, false, List, [], ◌∷◌, length, sum_by, All}
-use Rattle.layout.specs.Slots.{Shape, slots_at, rows_at, slot_at}
-use Rattle.layout.specs.Blocks.{Stretch, size, first}
-use Rattle.layout.specs.Covers.{scale_of, start_of, end_of, fits}
-
--- slot s of level j of scale i is there
-pub record IsSlot (shape : Shape) (i j s : ℕ) : Type 0 where
-  pub scale : i < shape.scales
-  pub level : j ≤ shape.top
-  pub slot : s < slots_at shape.top j
-
--- cell x of a table is one of that slot's, which has `each j` cells from `start i j s` on
-pub record HasCell (start : ℕ → ℕ → ℕ → ℕ) (each : ℕ → ℕ) (shape : Shape) (x i j s : ℕ) : Type 0 where
-  pub there : IsSlot shape i j s
-  pub from : start i j s ≤ x
-  pub below : x < start i j s + each j
-
--- something is so for three numbers, and for no others
-pub record JustOne (P : ℕ → ℕ → ℕ → Type 0) : Type 0 where
-  pub scale : ℕ
-  pub level : ℕ
-  pub slot : ℕ
-  pub holds : P scale level slot
-  pub only : (i j s : ℕ) → P i j s → (i ≡ scale) × (j ≡ level) × (s ≡ slot)
-
--- the slots fill so many cells: each is one slot's and no other's, and no slot goes beyond them
-pub record Fill (start : ℕ → ℕ → ℕ → ℕ) (each : ℕ → ℕ) (shape : Shape) (cells : ℕ) : Type 0 where
-  pub once : (x : ℕ) → x < cells → JustOne (HasCell start each shape x)
-  pub within : (i j s : ℕ) → IsSlot shape i j s → start i j s + each j ≤ cells
-
--- their rows and their heads do
-abbrev pub FillRows : Shape → ℕ → Type 0
-FillRows shape rows = Fill (λ i j s. (slot_at shape.top i j s).start) (rows_at shape.top) shape rows
-
-abbrev pub FillHeads : Shape → ℕ → Type 0
-FillHeads shape heads = Fill (λ i j s. (slot_at shape.top i j s).head) (λ j. 1) shape heads
+use Rattle.std.specs.Prelude.{◌≡◌, ℕ, ◌+◌, ◌-◌, ◌*◌, ◌%◌, ◌^◌, ◌<◌, ◌≤◌, List, [], ◌∷◌, length, sum_by, All}
+use Rattle.layout.specs.declared.place.Place.{Place}
+use Rattle.layout.specs.Slots.{Shape, block_size, rows_at}
+use Rattle.layout.specs.Blocks.{Stretch, size, first, slot_of}
+use Rattle.layout.specs.Covers.{scale_of, start_of, end_of}
 
 -- a block of one of the scales and levels that there are
 pub record IsBlock (shape : Shape) (b : Stretch) : Type 0 where
@@ -42,7 +11,25 @@ pub record IsBlock (shape : Shape) (b : Stretch) : Type 0 where
   pub scale : b.scale < shape.scales
   pub level : b.level ≤ shape.top
 
--- and one that arrival m falls into
+-- cell x of a table is one of a slot's, which has `each` cells from `start` on
+pub record HasCell (start each : Place → ℕ) (x : ℕ) (place : Place) : Type 0 where
+  pub from : start place ≤ x
+  pub below : x < start place + each place
+
+-- the blocks' slots fill so many cells: each cell is in a slot, slots that share one are the same, and none goes beyond them
+pub record Fill (start each : Place → ℕ) (shape : Shape) (cells : ℕ) : Type 0 where
+  pub filled : (x : ℕ) → x < cells → (b : Stretch) × (IsBlock shape b × HasCell start each x (slot_of b))
+  pub apart : (x : ℕ) (b c : Stretch) → IsBlock shape b → IsBlock shape c → HasCell start each x (slot_of b) → HasCell start each x (slot_of c) → slot_of b ≡ slot_of c
+  pub within : (b : Stretch) → IsBlock shape b → start (slot_of b) + each (slot_of b) ≤ cells
+
+-- their rows and their heads do
+abbrev pub FillRows : Shape → ℕ → Type 0
+FillRows shape rows = Fill (λ p. p.start) (λ p. p.rows) shape rows
+
+abbrev pub FillHeads : Shape → ℕ → Type 0
+FillHeads shape heads = Fill (λ p. p.head) (λ p. 1) shape heads
+
+-- a block of the shape that arrival m falls into
 pub record IsVisit (shape : Shape) (m : ℕ) (b : Stretch) : Type 0 where
   pub there : IsBlock shape b
   pub from : first b ≤ m
@@ -79,21 +66,22 @@ Adjacent p q [] = p ≡ q
 Adjacent p q (b ∷ bs) = (first b ≡ p) × Adjacent (p + size b) q bs
 
 -- a block can answer for the newest n of m arrivals: it lies inside them, all its arrivals have come, and no block that began later has taken its slot
-pub record CanAnswer (m n : ℕ) (b : Stretch) : Type 0 where
+pub record CanAnswer (shape : Shape) (m n : ℕ) (b : Stretch) : Type 0 where
   pub inside : m - n ≤ first b
   pub complete : first b + size b ≤ m
-  pub kept : (c : ℕ) → b.number < c → c * size b < m → c % slots_at b.top b.level ≢ b.number % slots_at b.top b.level
+  pub kept : (c : Stretch) → IsBlock shape c → slot_of c ≡ slot_of b → first c < m → first c ≤ first b
 
--- no larger block could have started where it starts and ended by arrival q
+-- no larger block could have started in its place and ended by arrival q
 abbrev pub IsLargest : ℕ → Stretch → Type 0
-IsLargest q b = (j : ℕ) → b.level < j → j ≤ b.top → fits b.scale (first b) q j ≡ false
+IsLargest q b = (j : ℕ) → b.level < j → j ≤ b.top → first b % block_size b.scale j ≡ 0 → q < first b + block_size b.scale j
 
 -- blocks from p to q, and so many ignored arrivals, are a cover of the newest n of m arrivals
 pub record IsCoverFrom (shape : Shape) (m n p q : ℕ) (blocks : List Stretch) (ignored : ℕ) : Type 0 where
   pub ends : AreEnds (scale_of shape n) m n p q
   pub adjacent : Adjacent p q blocks
   pub there : All (IsBlock shape) blocks
-  pub answer : All (CanAnswer m n) blocks
+  pub one_scale : All (λ b. b.scale ≡ scale_of shape n) blocks
+  pub answer : All (CanAnswer shape m n) blocks
   pub largest : All (IsLargest q) blocks
   pub few : length blocks ≤ 2 * (shape.top + 1)
   pub whole : ignored + sum_by size blocks ≡ n

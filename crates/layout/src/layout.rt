@@ -1,8 +1,8 @@
 //! The layout of a setting.
 
 ghost use Rattle.std.specs.Int.{leading_zeros, w32};
-ghost use Rattle.std.specs.Prelude.{◌≡◌, ◌+◌, ◌-◌, ◌*◌, ◌^◌, ◌<◌, ◌≤◌, All};
-ghost use Rattle.layout.specs.Blocks.{visits_of};
+ghost use Rattle.std.specs.Prelude.{◌≡◌, ◌+◌, ◌-◌, ◌*◌, ◌^◌, ◌<◌, ◌≤◌, All, Contains};
+ghost use Rattle.layout.specs.Blocks.{Stretch, visits_of};
 ghost use Rattle.layout.specs.Cases.{Needs, Ninety, Seventeen};
 ghost use Rattle.layout.specs.Covers.{cover_of, end_of, ignored_of, scale_of, start_of};
 ghost use Rattle.layout.specs.Laws.{FillHeads, FillRows, IsCover, IsNear, IsScaleFor, IsVisit, IsWindow, longest};
@@ -92,6 +92,7 @@ impl Layout {
     pub fn visits(&self, arrival: u32) -> Visits
         ensures value { result ≡ visits_of self.now arrival }
         ensures right { All (IsVisit self.now arrival) result }
+        ensures all { (b : Stretch) → IsVisit self.now arrival b → Contains result b }
     {
         Visits {
             top: self.top,
