@@ -4,7 +4,8 @@ use Rattle.std.proofs.lemmas.Bool.{cases_lt, both_ways}
 use Rattle.std.proofs.lemmas.List.Elements.{All-nil, All-cons}
 use Rattle.std.proofs.lemmas.List.Sums.{sum_by-cons}
 use Rattle.std.proofs.lemmas.Nat.{pow_pos, pow-add}
-use Rattle.layout.specs.Slots.{Shape, IsShape, block_size, slots_at}
+use Rattle.layout.specs.Slots.{Shape, block_size, slots_at}
+use Rattle.layout.specs.Inside.{IsShape}
 use Rattle.layout.specs.Blocks.{Stretch, size, first}
 use Rattle.layout.specs.Covers.{fits, scale_of, start_of, end_of, level_at, walk_between, cover_of}
 use Rattle.layout.specs.Laws.{AreEnds, Adjacent, IsBlock, IsWindow, CanAnswer, IsLargest, IsCoverFrom}

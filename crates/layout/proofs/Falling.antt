@@ -1,5 +1,5 @@
 -- The blocks that an arrival falls into. Assumes nothing.
-use Rattle.std.proofs.Common.{◌≡◌, ◌*◌, ◌/◌, ⊎_elim, [], ◌∷◌, sym, subst, Contains, add-mul, one-mul, ℕ, zero, suc, ◌+◌, ◌<◌, ◌≤◌, All, refl, arith, div-add-mod'}
+use Rattle.std.proofs.Common.{◌≡◌, ◌/◌, ⊎_elim, [], ◌∷◌, sym, subst, Contains, add-mul, one-mul, ℕ, zero, suc, ◌+◌, ◌<◌, ◌≤◌, All, refl, arith, div-add-mod'}
 use Rattle.std.proofs.lemmas.List.Elements.{All-nil, All-cons, All-append, Contains-append_left, Contains-append_right, Contains-push}
 use Rattle.std.proofs.Math.Nat.{div-eq_of_lt-le}
 use Rattle.std.proofs.lemmas.Bool.{cases_eq}

@@ -5,7 +5,7 @@ use Rattle.std.proofs.lemmas.Nat.{div_below, mod_below}
 use Rattle.layout.specs.Slots.{Shape, slots_at, rows_at, cells_below, rows_below, heads_below, scale_rows, scale_heads}
 use Rattle.layout.specs.declared.place.Place.{Place}
 use Rattle.layout.specs.Slots.{slot_at}
-use Rattle.layout.specs.Blocks.{Stretch, size, first, slot_of}
+use Rattle.layout.specs.Blocks.{Stretch, slot_of}
 use Rattle.layout.specs.Laws.{IsBlock, HasCell, Fill, FillRows, FillHeads}
 use Rattle.layout.proofs.Closed.{rows_of_scale, heads_of_scale}
 

@@ -1,6 +1,7 @@
 pub mod Answering
 pub mod Bits
 pub mod Closed
+pub mod CoverLaws
 pub mod Edges
 pub mod Falling
 pub mod Few
@@ -11,4 +12,3 @@ pub mod Nearness
 pub mod Scales
 pub mod Small
 pub mod Walks
-pub mod Whole

@@ -1,12 +1,20 @@
--- What is always so of the numbers inside a block and inside the two walks over blocks. Assumes nothing.
+-- What is always so of the numbers inside a layout, a block and the two walks over blocks. Assumes nothing.
 use Rattle.std.specs.Prelude.{◌≡◌, ℕ, ◌+◌, ◌*◌, ◌%◌, ◌^◌, ◌<◌, ◌≤◌}
-use Rattle.layout.specs.Slots.{IsShape, block_size}
+use Rattle.settings.specs.Chosen.{least_accuracy, most_accuracy, most_span}
+use Rattle.layout.specs.Slots.{block_size}
+
+-- a layout: its last level follows from an accuracy, and the last of its scales from a span
+pub record IsShape (top scales : ℕ) : Type 0 where
+  pub lowest : least_accuracy + 3 ≤ top
+  pub highest : top ≤ most_accuracy + 3
+  pub some : 1 ≤ scales
+  pub few : top + scales ≤ most_span + 1
 
 -- a level j and a scale i of a ladder whose last level is t
 pub record IsLevel (t i j : ℕ) : Type 0 where
-  pub lowest : 4 ≤ t
-  pub highest : t ≤ 9
-  pub scale : t + i ≤ 20
+  pub lowest : least_accuracy + 3 ≤ t
+  pub highest : t ≤ most_accuracy + 3
+  pub scale : t + i ≤ most_span
   pub level : j ≤ t
 
 -- block b of that level: the number of its first arrival has 32 bits

@@ -1,7 +1,7 @@
 -- Where the slots of a ladder lie in its two tables. Assumes nothing.
 --
 -- `top` is the number of a scale's last level: the accuracy and 3 more. Scales are counted from 0: scale i answers for windows of up to 2^(top + i) keys, and its smallest blocks hold 2^i arrivals each.
-use Rattle.std.specs.Prelude.{ℕ, zero, suc, ◌+◌, ◌-◌, ◌*◌, ◌^◌, ◌≤◌}
+use Rattle.std.specs.Prelude.{ℕ, zero, suc, ◌+◌, ◌-◌, ◌*◌, ◌^◌}
 use Rattle.layout.specs.declared.place.Place.{Place}
 
 -- the levels and scales of a ladder
@@ -13,22 +13,11 @@ pub record Shape : Type 0 where
 abbrev pub shape_of : ℕ → ℕ → Shape
 shape_of a k = record { top = a + 3; scales = k - (a + 2) }
 
--- the shapes that there are
-pub record IsShape (top scales : ℕ) : Type 0 where
-  pub lowest : 4 ≤ top
-  pub highest : top ≤ 9
-  pub some : 1 ≤ scales
-  pub few : top + scales ≤ 21
-
 -- one level of one scale
 pub record Rung : Type 0 where
   pub top : ℕ
   pub scale : ℕ
   pub number : ℕ
-
--- the last level of the last scale
-abbrev pub last_of : Shape → Rung
-last_of shape = record { top = shape.top; scale = shape.scales - 1; number = shape.top }
 
 -- the arrivals in a block of level j of scale i
 abbrev pub block_size : ℕ → ℕ → ℕ

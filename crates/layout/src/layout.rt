@@ -5,8 +5,9 @@ ghost use Rattle.std.specs.Prelude.{◌≡◌, ◌+◌, ◌-◌, ◌*◌, ◌^�
 ghost use Rattle.layout.specs.Blocks.{Stretch, visits_of};
 ghost use Rattle.layout.specs.Cases.{Needs, Ninety, Seventeen};
 ghost use Rattle.layout.specs.Covers.{cover_of, end_of, ignored_of, scale_of, start_of};
-ghost use Rattle.layout.specs.Laws.{FillHeads, FillRows, IsCover, IsNear, IsScaleFor, IsVisit, IsWindow, longest};
-ghost use Rattle.layout.specs.Slots.{heads_below, last_of, rows_below, scale_heads, scale_rows, shape_of};
+ghost use Rattle.layout.specs.Inside.{IsLevel, IsShape, IsWalk};
+ghost use Rattle.layout.specs.Laws.{AreEnds, FillHeads, FillRows, IsCover, IsNear, IsScaleFor, IsVisit, IsWindow, longest};
+ghost use Rattle.layout.specs.Slots.{heads_below, rows_below, scale_heads, scale_rows, shape_of};
 
 use crate::cover::Cover;
 use crate::level::Level;
@@ -24,7 +25,8 @@ pub struct Layout {
 }
 
 impl Model for Layout {
-    ghost use Rattle.layout.specs.Slots.{IsShape, Shape};
+    ghost use Rattle.layout.specs.Slots.{Shape};
+    ghost use Rattle.layout.specs.Inside.{IsShape};
 
     ghost Value = { Shape };
 
@@ -33,6 +35,15 @@ impl Model for Layout {
     ghost invariant = { λ l. IsShape l.top l.scales };
 
     ghost inverse = { λ s. record { top = s.top; scales = s.scales } };
+}
+
+// A window's scale, and where its cover begins and ends.
+#[derive(Drop)]
+struct Edges {
+    top: u32,
+    scale: u32,
+    start: u32,
+    end: u32,
 }
 
 impl Layout {
@@ -64,13 +75,13 @@ impl Layout {
         ensures sum { result ≡ self.now.scales * heads_below self.now.top (self.now.top + 1) }
         ensures filled { FillHeads self.now result }
     {
-        let level = self.last_level();
-        level.head() + level.slots() as usize
+        let end = self.last_level();
+        end.head() + end.slots() as usize
     }
 
     // The last level of the last scale: behind its slots there are none.
     fn last_level(&self) -> Level
-        ensures value { result ≡ last_of self.now }
+        ensures value { result ≡ record { top = self.now.top; scale = self.now.scales - 1; number = self.now.top } }
         ensures some { 1 ≤ self.now.scales }
     {
         Level {
@@ -83,6 +94,7 @@ impl Layout {
     /// The scale that answers for windows of this size: the smallest that is for windows so long.
     pub fn scale_of(&self, window: u32) -> u32
         ensures value { result ≡ scale_of self.now window }
+        ensures there { IsLevel self.now.top result 0 }
         ensures right { window ≤ longest self.now → IsScaleFor self.now window result }
     {
         digits(window).saturating_sub(self.top).min(self.scales - 1)
@@ -111,18 +123,33 @@ impl Layout {
         ensures near { IsWindow self.now arrivals window → IsNear self.now window result.blocks result.ignored }
         ensures cases { Ninety × Seventeen }
     {
-        let top = self.top;
-        let scale = self.scale_of(window);
-        let start = start(scale, arrivals, window);
-        let end = end(scale, arrivals);
+        let found = self.edges(arrivals, window);
         Cover {
             blocks: Walk {
-                top,
-                scale,
-                position: start,
-                end,
+                top: found.top,
+                scale: found.scale,
+                position: found.start,
+                end: found.end,
             },
-            ignored: window - (end - start),
+            ignored: window - (found.end - found.start),
+        }
+    }
+
+    fn edges(&self, arrivals: u32, window: u32) -> Edges
+        ensures walk { IsWalk result.top result.scale result.start result.end }
+        ensures shape { IsShape self.now.top self.now.scales }
+        ensures top { result.top ≡ self.now.top }
+        ensures scale { result.scale ≡ scale_of self.now window }
+        ensures start { result.start ≡ start_of result.scale arrivals window }
+        ensures end { result.end ≡ end_of result.scale arrivals }
+        ensures right { AreEnds result.scale arrivals window result.start result.end }
+    {
+        let scale = self.scale_of(window);
+        Edges {
+            top: self.top,
+            scale,
+            start: cover_start(scale, arrivals, window),
+            end: cover_end(scale, arrivals),
         }
     }
 }
@@ -136,7 +163,7 @@ fn digits(window: u32) -> u32
 
 // Where the cover of a window begins: at the window's first key, rounded up to a multiple of the scale's smallest block. The
 // block that the window's edge cuts is left out.
-fn start(scale: u32, arrivals: u32, window: u32) -> u32
+fn cover_start(scale: u32, arrivals: u32, window: u32) -> u32
     requires { (scale ≤ 16) × (start_of scale arrivals window < 2 ^ 32) }
     ensures { result ≡ start_of scale arrivals window }
 {
@@ -144,7 +171,7 @@ fn start(scale: u32, arrivals: u32, window: u32) -> u32
 }
 
 // Where it ends: behind the last key that came, rounded down.
-fn end(scale: u32, arrivals: u32) -> u32
+fn cover_end(scale: u32, arrivals: u32) -> u32
     requires { scale ≤ 16 }
     ensures { result ≡ end_of scale arrivals }
 {
