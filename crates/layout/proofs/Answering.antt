@@ -10,9 +10,9 @@ use Rattle.layout.specs.Blocks.{Stretch, size, first}
 use Rattle.layout.specs.Covers.{fits, scale_of, start_of, end_of, level_at, walk_between, cover_of}
 use Rattle.layout.specs.Laws.{AreEnds, Adjacent, IsBlock, IsWindow, CanAnswer, IsLargest, IsCoverFrom}
 use Rattle.layout.proofs.Few.{few_between}
-use Rattle.layout.proofs.Largest.{IsBest, best, fits_from}
-use Rattle.layout.proofs.Filling.{same_turn}
-use Rattle.layout.proofs.Multiples.{a_unit_apart, together, power_of_more}
+use Rattle.layout.proofs.Largest.{IsBest, best, fits_when}
+use Rattle.layout.proofs.Using.{same_turn}
+use Rattle.layout.proofs.Multiples.{a_unit_apart, sum_of_multiples, power_of_more}
 use Rattle.layout.proofs.Scales.{scale_right, scale_there}
 use Rattle.layout.proofs.Walks.{taken, after, walk_next, walk_end}
 
@@ -28,10 +28,10 @@ module _ (top i q : ℕ) (whole : q % 2 ^ i ≡ 0) where
       best i p q top (record { multiple = ap (λ k. p % k) none ∙ here.multiple; ends = omega (arith, none, a_unit_apart (2 ^ i) p q here.multiple whole here.before) })
 
   next_multiple : (p : ℕ) → p % 2 ^ i ≡ 0 → after top i q p % 2 ^ i ≡ 0
-  next_multiple p h = together (2 ^ i) p (block_size i (level_at i p q top)) h (power_of_more i (level_at i p q top))
+  next_multiple p h = sum_of_multiples (2 ^ i) p (block_size i (level_at i p q top)) h (power_of_more i (level_at i p q top))
 
   -- what is so of each block that is taken at or behind a place is so of all that are left there
-  pub each_taken : (F : Stretch → Type 0) → (n p : ℕ) → q ≤ p + n → p % 2 ^ i ≡ 0 → ((x : ℕ) → p ≤ x → IsPlace x → F (taken top i q x)) → All F (walk_between top i p q)
+  each_taken : (F : Stretch → Type 0) → (n p : ℕ) → q ≤ p + n → p % 2 ^ i ≡ 0 → ((x : ℕ) → p ≤ x → IsPlace x → F (taken top i q x)) → All F (walk_between top i p q)
   each_taken F zero p enough h f = rw (walk_end top i q p (omega arith)) (All-nil F)
   each_taken F (suc n) p enough h f = ⊎_elim
       (λ (u : p < q). rw (walk_next top i q p u) (All-cons F (taken top i q p) (walk_between top i (after top i q p) q) (f p (omega arith) (record { multiple = h; before = u }))
@@ -40,7 +40,7 @@ module _ (top i q : ℕ) (whole : q % 2 ^ i ≡ 0) where
       (cases_lt p q)
 
   -- a block begins where it was taken
-  pub first_taken : (p : ℕ) → IsPlace p → first (taken top i q p) ≡ p
+  first_taken : (p : ℕ) → IsPlace p → first (taken top i q p) ≡ p
   first_taken p here = omega (arith, div-add-mod' p (block_size i (level_at i p q top)), (best_there p here).here.multiple)
 
   pub adjacent : (n p : ℕ) → q ≤ p + n → p ≤ q → p % 2 ^ i ≡ 0 → Adjacent p q (walk_between top i p q)
@@ -57,11 +57,11 @@ module _ (top i q : ℕ) (whole : q % 2 ^ i ≡ 0) where
   of_one_scale n p enough h = each_taken (λ b. (b.top ≡ top) × (b.scale ≡ i)) n p enough h (λ x from here. (refl, refl))
 
 -- adjacent blocks hold all arrivals from the first to the last
-pub arrivals_between : (p q : ℕ) (bs : List Stretch) → Adjacent p q bs → p + sum_by size bs ≡ q
+arrivals_between : (p q : ℕ) (bs : List Stretch) → Adjacent p q bs → p + sum_by size bs ≡ q
 arrivals_between p q [] a = omega (arith, a)
 arrivals_between p q (b ∷ bs) a = omega (arith, sum_by-cons size b bs, arrivals_between (p + size b) q bs a.1)
 
--- of the cover's arrivals, those that it does not ignore lie between its two ends
+-- the blocks of a cover hold just the arrivals from p to q
 pub arrivals_covered : (shape : Shape) (m n i p q : ℕ) → AreEnds i m n p q → p + sum_by size (walk_between shape.top i p q) ≡ q
 arrivals_covered shape m n i p q e = arrivals_between p q (walk_between shape.top i p q) (adjacent shape.top i q e.end (q - p) p (omega (arith, e.ordered)) e.ordered e.start)
 
@@ -114,7 +114,7 @@ module _ (shape : Shape) (m n : ℕ) (is : IsShape shape.top shape.scales) (wind
         let at = first_taken shape.top i q e.end x here in
         ⊎_elim
         (λ (u : q < x + block_size i j). omega (arith, u, at))
-        (λ (u : x + block_size i j ≤ q). absurd (both_ways (fits i x q j) (best.above j above le) (fits_from i x q j (record { multiple = ap (λ k. k % block_size i j) (sym at) ∙ multiple; ends = u }))))
+        (λ (u : x + block_size i j ≤ q). absurd (both_ways (fits i x q j) (best.above j above le) (fits_when i x q j (record { multiple = ap (λ k. k % block_size i j) (sym at) ∙ multiple; ends = u }))))
         (cases_lt q (x + block_size i j))
 
     -- all that is so of the cover between these ends

@@ -12,7 +12,7 @@ pub rows_and_one : (top j : ℕ) → rows_at top j + 1 ≡ 2 ^ j * (top + 1)
 rows_and_one top j = omega (arith, mul-le-mul_right {m = 1} {n = 2 ^ j} (top + 1) (pow_pos j), one-mul (top + 1))
 
 -- the rows of one level
-pub level_rows : (top j : ℕ) → j ≤ top → slots_at top j * rows_at top j + (2 ^ (top - j) + 1) ≡ 2 ^ top * (top + 1) + 2 ^ j * (top + 1)
+level_rows : (top j : ℕ) → j ≤ top → slots_at top j * rows_at top j + (2 ^ (top - j) + 1) ≡ 2 ^ top * (top + 1) + 2 ^ j * (top + 1)
 level_rows top j h =
     let some = 2 ^ (top - j) in
     let split : top ≡ (top - j) + j = omega arith in

@@ -8,27 +8,27 @@ use Rattle.layout.specs.Slots.{Shape}
 use Rattle.layout.specs.Covers.{scale_of, start_of, end_of}
 use Rattle.layout.specs.Laws.{AreEnds}
 use Rattle.layout.proofs.Closed.{pow_mono}
-use Rattle.layout.proofs.Multiples.{a_unit_apart, together}
+use Rattle.layout.proofs.Multiples.{a_unit_apart, sum_of_multiples}
 use Rattle.layout.proofs.Scales.{smaller_short}
 
 -- rounding up and down to multiples of u
 module _ (u : ℕ) (pos : 0 < u) where
-  pub record RoundsUp (x y : ℕ) : Type 0 where
+  record RoundsUp (x y : ℕ) : Type 0 where
     pub above : x ≤ y
     pub near : y < x + u
     pub multiple : y % u ≡ 0
 
-  pub record RoundsDown (x y : ℕ) : Type 0 where
+  record RoundsDown (x y : ℕ) : Type 0 where
     pub below : y ≤ x
     pub near : x < y + u
     pub multiple : y % u ≡ 0
 
-  pub rounded_down : (x : ℕ) → RoundsDown x (x - x % u)
+  rounded_down : (x : ℕ) → RoundsDown x (x - x % u)
   rounded_down x =
       let parts : x - x % u ≡ x / u * u = omega (arith, div-add-mod' x u) in
       record { below = omega arith; near = omega (arith, mod_below x u pos); multiple = ap (λ n. n % u) parts ∙ mul-mod_left (x / u) u }
 
-  pub rounded_up : (x : ℕ) → RoundsUp x (next_multiple_of x u)
+  rounded_up : (x : ℕ) → RoundsUp x (next_multiple_of x u)
   rounded_up x = ⊎_elim
       (λ (z : x % u ≡ 0).
       let none : (u - x % u) % u ≡ 0 = ap (λ n. (u - n) % u) z ∙ ap (λ n. n % u) (sub-zero u) ∙ mod_self u in
@@ -36,14 +36,14 @@ module _ (u : ℕ) (pos : 0 < u) where
       (λ (z : x % u ≡ 0 → ⊥).
       let some : (u - x % u) % u ≡ u - x % u = mod-eq_of_lt (omega (arith, mod_below x u pos)) in
       let next : next_multiple_of x u ≡ (x - x % u) + u = omega (arith, mod_below x u pos, (rounded_down x).below, div-add-mod' x u) in
-      record { above = omega arith; near = omega (arith, mod_below x u pos); multiple = ap (λ n. n % u) next ∙ together u (x - x % u) u ((rounded_down x).multiple) (mod_self u) })
+      record { above = omega arith; near = omega (arith, mod_below x u pos); multiple = ap (λ n. n % u) next ∙ sum_of_multiples u (x - x % u) u ((rounded_down x).multiple) (mod_self u) })
       (cases_eq (x % u) 0)
 
 -- a smallest block is not longer than the window, but where it holds one arrival
-abbrev pub IsShort : ℕ → ℕ → Type 0
+abbrev IsShort : ℕ → ℕ → Type 0
 IsShort i n = (i ≡ 0) ⊎ (2 ^ i ≤ n)
 
-pub scale_short : (shape : Shape) (n i : ℕ) → 1 ≤ shape.top → i ≡ scale_of shape n → IsShort i n
+scale_short : (shape : Shape) (n i : ℕ) → 1 ≤ shape.top → i ≡ scale_of shape n → IsShort i n
 scale_short shape n i levels e = ⊎_elim
     (λ (z : i ≡ 0). inl z)
     (λ (z : i ≡ 0 → ⊥). inr (omega (arith, smaller_short shape n (i - 1) (omega arith), pow_mono i (shape.top + (i - 1)) (omega arith))))

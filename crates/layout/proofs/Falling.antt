@@ -16,7 +16,7 @@ module _ (shape : Shape) (m : ℕ) where
     below = omega (arith, div-add-mod' m (block_size i j), mod_below m (block_size i j) (pow_pos (i + j)));
   }
 
-  -- all levels of a scale are there, and all scales
+  -- each is there, and m falls into it
   levels_there : (i n j : ℕ) → i < shape.scales → j + n ≤ shape.top + 1 → All (IsVisit shape m) (blocks_from shape.top m i j n)
   levels_there i zero j there enough = All-nil (IsVisit shape m)
   levels_there i (suc n) j there enough = All-cons (IsVisit shape m) (block_of shape.top m i j) (blocks_from shape.top m i (j + 1) n)

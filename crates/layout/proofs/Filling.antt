@@ -1,28 +1,24 @@
 -- The slots fill a table: slot after slot, level after level and scale after scale. Assumes nothing.
-use Rattle.std.proofs.Common.{refl, mod-eq_of_lt, ◌≡◌, ℕ, zero, suc, ◌+◌, ◌-◌, ◌*◌, ◌/◌, ◌%◌, ◌<◌, ◌≤◌, ◌⊎◌, ⊎_elim, subst, ap, arith, suc-mul, mul-le-mul_right, div-add-mod', mul-zero, mul-one, add-one, sym, ◌∙◌}
+use Rattle.std.proofs.Common.{◌≡◌, ℕ, zero, suc, ◌+◌, ◌-◌, ◌*◌, ◌/◌, ◌%◌, ◌<◌, ◌≤◌, ◌⊎◌, ⊎_elim, subst, ap, arith, suc-mul, mul-le-mul_right, div-add-mod', mul-zero, add-one, sym, ◌∙◌}
 use Rattle.std.proofs.lemmas.Bool.{cases_order, cases_lt, cases_eq}
 use Rattle.std.proofs.lemmas.Nat.{div_below, mod_below}
 use Rattle.layout.specs.Slots.{Shape, slots_at, rows_at, cells_below, rows_below, heads_below, scale_rows, scale_heads}
-use Rattle.layout.specs.declared.place.Place.{Place}
-use Rattle.layout.specs.Slots.{slot_at}
-use Rattle.layout.specs.Blocks.{Stretch, slot_of}
-use Rattle.layout.specs.Laws.{IsBlock, HasCell, Fill, FillRows, FillHeads}
 use Rattle.layout.proofs.Closed.{rows_of_scale, heads_of_scale}
 
 -- slot s of level j of scale i is there
-record IsSlot (shape : Shape) (i j s : ℕ) : Type 0 where
+pub record IsSlot (shape : Shape) (i j s : ℕ) : Type 0 where
   pub scale : i < shape.scales
   pub level : j ≤ shape.top
   pub slot : s < slots_at shape.top j
 
 -- cell x of a table is one of that slot's, which has `each j` cells from `start i j s` on
-record InSlot (start : ℕ → ℕ → ℕ → ℕ) (each : ℕ → ℕ) (shape : Shape) (x i j s : ℕ) : Type 0 where
+pub record InSlot (start : ℕ → ℕ → ℕ → ℕ) (each : ℕ → ℕ) (shape : Shape) (x i j s : ℕ) : Type 0 where
   pub there : IsSlot shape i j s
   pub from : start i j s ≤ x
   pub below : x < start i j s + each j
 
 -- something is so for three numbers, and for no others
-record JustOne (P : ℕ → ℕ → ℕ → Type 0) : Type 0 where
+pub record JustOne (P : ℕ → ℕ → ℕ → Type 0) : Type 0 where
   pub scale : ℕ
   pub level : ℕ
   pub slot : ℕ
@@ -30,16 +26,20 @@ record JustOne (P : ℕ → ℕ → ℕ → Type 0) : Type 0 where
   pub only : (i j s : ℕ) → P i j s → (i ≡ scale) × (j ≡ level) × (s ≡ slot)
 
 -- the slots fill so many cells: each is one slot's and no other's, and no slot goes beyond them
-record Filled (start : ℕ → ℕ → ℕ → ℕ) (each : ℕ → ℕ) (shape : Shape) (cells : ℕ) : Type 0 where
+pub record Filled (start : ℕ → ℕ → ℕ → ℕ) (each : ℕ → ℕ) (shape : Shape) (cells : ℕ) : Type 0 where
   pub once : (x : ℕ) → x < cells → JustOne (InSlot start each shape x)
   pub within : (i j s : ℕ) → IsSlot shape i j s → start i j s + each j ≤ cells
 
+-- a factor of a product that something is less than
+positive_factor : (x a b : ℕ) → x < a * b → 0 < b
+positive_factor x a b h = ⊎_elim (λ (z : b ≡ 0). absurd (omega (arith, h, ap (λ w. a * w) z, mul-zero a))) (λ (n : b ≡ 0 → ⊥). omega arith) (cases_eq b 0)
+
 -- part i of n parts ends by their end
-pub part_end : (i n width : ℕ) → i < n → i * width + width ≤ n * width
+part_end : (i n width : ℕ) → i < n → i * width + width ≤ n * width
 part_end i n width h = omega (arith, suc-mul i width, mul-le-mul_right {m = suc i} {n = n} width h)
 
 module _ (each : ℕ → ℕ) (top : ℕ) where
-  pub below_mono : (i j : ℕ) → i ≤ j → cells_below each top i ≤ cells_below each top j
+  below_mono : (i j : ℕ) → i ≤ j → cells_below each top i ≤ cells_below each top j
   below_mono i zero h = let e : i ≡ 0 = omega arith in rw e (omega arith)
   below_mono i (suc j) h = ⊎_elim
       (λ (e : i ≡ suc j). rw e (omega arith))
@@ -97,8 +97,8 @@ module _ (each : ℕ → ℕ) (top whole : ℕ) (all : cells_below each top (top
 
 module _ (each : ℕ → ℕ) (shape : Shape) (whole : ℕ) (all : cells_below each shape.top (shape.top + 1) ≡ whole) where
   -- a cell is one slot's alone
-  only : (x i j s i' j' s' : ℕ) → InSlot (start each shape.top whole all) each shape x i j s → InSlot (start each shape.top whole all) each shape x i' j' s' → (i' ≡ i) × (j' ≡ j) × (s' ≡ s)
-  only x i j s i' j' s' h h' =
+  cell_of_one_slot : (x i j s i' j' s' : ℕ) → InSlot (start each shape.top whole all) each shape x i j s → InSlot (start each shape.top whole all) each shape x i' j' s' → (i' ≡ i) × (j' ≡ j) × (s' ≡ s)
+  cell_of_one_slot x i j s i' j' s' h h' =
       let top = shape.top in
       let scale : i' ≡ i = omega (
         arith,
@@ -122,17 +122,17 @@ module _ (each : ℕ → ℕ) (shape : Shape) (whole : ℕ) (all : cells_below e
       )
 
   -- whatever so many scales need of a table, they fill
-  filled : Filled (start each shape.top whole all) each shape (shape.scales * whole)
+  pub filled : Filled (start each shape.top whole all) each shape (shape.scales * whole)
   filled = record {
     within = λ i j s h. slot_by each shape.top whole all shape.scales i j s h.scale h.level h.slot;
     once = λ x h.
-        let pos : 0 < whole = ⊎_elim (λ (z : whole ≡ 0). absurd (omega (arith, ap (λ w. shape.scales * w) z, mul-zero shape.scales))) (λ (n : whole ≡ 0 → ⊥). omega arith) (cases_eq whole 0) in
+        let pos = positive_factor x shape.scales whole h in
         let i = x / whole in
         let split = div-add-mod' x whole in
         let l = in_level each shape.top (shape.top + 1) (x % whole) (omega (arith, all, mod_below x whole pos)) in
         let left = x % whole - cells_below each shape.top l.level in
         let inside : left < slots_at shape.top l.level * each l.level = omega (arith, l.below, l.from) in
-        let some : 0 < each l.level = ⊎_elim (λ (z : each l.level ≡ 0). absurd (omega (arith, inside, ap (λ w. slots_at shape.top l.level * w) z, mul-zero (slots_at shape.top l.level)))) (λ (n : each l.level ≡ 0 → ⊥). omega arith) (cases_eq (each l.level) 0) in
+        let some = positive_factor left (slots_at shape.top l.level) (each l.level) inside in
         let s = left / each l.level in
         let cut = div-add-mod' left (each l.level) in
         let here : InSlot (start each shape.top whole all) each shape x i l.level s = record {
@@ -140,80 +140,8 @@ module _ (each : ℕ → ℕ) (shape : Shape) (whole : ℕ) (all : cells_below e
           from = omega (arith, split, cut, l.from);
           below = omega (arith, split, cut, l.from, mod_below left (each l.level) some);
         } in
-        record { scale = i; level = l.level; slot = s; holds = here; only = λ i' j' s' other. only x i l.level s i' j' s' here other };
+        record { scale = i; level = l.level; slot = s; holds = here; only = λ i' j' s' other. cell_of_one_slot x i l.level s i' j' s' here other };
   }
-
--- the slot of a block is one of its level's
-module _ (shape : Shape) (b : Stretch) (is : IsBlock shape b) where
-  slot_is : slot_of b ≡ slot_at shape.top b.scale b.level (b.number % slots_at shape.top b.level)
-  slot_is = ap (λ t. slot_at t b.scale b.level (b.number % slots_at t b.level)) is.top
-
-  slot_there : IsSlot shape b.scale b.level (b.number % slots_at shape.top b.level)
-  slot_there = record { scale = is.scale; level = is.level; slot = mod_below b.number (slots_at shape.top b.level) (omega arith) }
-
--- what the slots fill by level and turn, the blocks fill
-module _ (shape : Shape) (cells : ℕ) (start : ℕ → ℕ → ℕ → ℕ) (each : ℕ → ℕ) (from many : Place → ℕ)
-    (starts : (i j s : ℕ) → from (slot_at shape.top i j s) ≡ start i j s) (manys : (i j s : ℕ) → many (slot_at shape.top i j s) ≡ each j) (f : Filled start each shape cells) where
-  in_slot : (x : ℕ) (b : Stretch) (is : IsBlock shape b) → HasCell from many x (slot_of b) → InSlot start each shape x b.scale b.level (b.number % slots_at shape.top b.level)
-  in_slot x b is h =
-      let s = b.number % slots_at shape.top b.level in
-      let e = slot_is shape b is in
-      record {
-        there = slot_there shape b is;
-        from = omega (arith, h.from, ap from e, starts b.scale b.level s);
-        below = omega (arith, h.below, ap from e, ap many e, starts b.scale b.level s, manys b.scale b.level s);
-      }
-
-  by_blocks : Fill from many shape cells
-  by_blocks = record {
-    filled = λ x h.
-        let one = f.once x h in
-        let at : one.slot % slots_at shape.top one.level ≡ one.slot = mod-eq_of_lt one.holds.there.slot in
-        let same = ap (slot_at shape.top one.scale one.level) at in
-        let b : Stretch = record { top = shape.top; scale = one.scale; level = one.level; number = one.slot } in (
-          b,
-          (
-            record { top = refl; scale = one.holds.there.scale; level = one.holds.there.level },
-            record {
-              from = omega (arith, one.holds.from, ap from same, starts one.scale one.level one.slot);
-              below = omega (arith, one.holds.below, ap from same, ap many same, starts one.scale one.level one.slot, manys one.scale one.level one.slot);
-            },
-          ),
-        );
-    apart = λ x b c isb isc hb hc.
-        let xb = in_slot x b isb hb in
-        let xc = in_slot x c isc hc in
-        let one = f.once x (omega (arith, xb.below, f.within b.scale b.level (b.number % slots_at shape.top b.level) xb.there)) in
-        let ob = one.only _ _ _ xb in
-        let oc = one.only _ _ _ xc in
-        slot_is shape b isb ∙ (λ t. slot_at shape.top (ob.0 t) (ob.1 t) (ob.2 t)) ∙ sym (slot_is shape c isc ∙ (λ t. slot_at shape.top (oc.0 t) (oc.1 t) (oc.2 t)));
-    within = λ b is.
-        let s = b.number % slots_at shape.top b.level in
-        let e = slot_is shape b is in
-        omega (arith, f.within b.scale b.level s (slot_there shape b is), ap from e, ap many e, starts b.scale b.level s, manys b.scale b.level s);
-  }
-
--- so do the rows, and the heads
-pub rows_filled : (shape : Shape) → FillRows shape (shape.scales * scale_rows shape.top)
-rows_filled shape = by_blocks shape _ _ _ (λ s. s.start) (λ s. s.rows) (λ i j s. refl) (λ i j s. refl) (filled (rows_at shape.top) shape (scale_rows shape.top) (rows_of_scale shape.top))
-
-heads_by_turn : (shape : Shape) → Filled (start (λ j. 1) shape.top (scale_heads shape.top) (heads_of_scale shape.top)) (λ j. 1) shape (shape.scales * scale_heads shape.top)
-heads_by_turn shape = filled (λ j. 1) shape (scale_heads shape.top) (heads_of_scale shape.top)
-
-pub heads_filled : (shape : Shape) → FillHeads shape (shape.scales * scale_heads shape.top)
-heads_filled shape = by_blocks shape _ _ _ (λ s. s.head) (λ s. 1) (λ i j s. omega (arith, mul-one s)) (λ i j s. refl) (heads_by_turn shape)
-
--- blocks with one slot are of one level, and their numbers leave one remainder
-pub same_turn : (shape : Shape) (b c : Stretch) → IsBlock shape b → IsBlock shape c → slot_of c ≡ slot_of b → (c.scale ≡ b.scale) × (c.level ≡ b.level) × (c.number % slots_at shape.top c.level ≡ b.number % slots_at shape.top b.level)
-same_turn shape b c isb isc e =
-    let f = heads_by_turn shape in
-    let x = (slot_of b).head in
-    let at = in_slot shape _ _ _ (λ s. s.head) (λ s. 1) (λ i j s. omega (arith, mul-one s)) (λ i j s. refl) f x b isb (record { from = omega arith; below = omega arith }) in
-    let on = in_slot shape _ _ _ (λ s. s.head) (λ s. 1) (λ i j s. omega (arith, mul-one s)) (λ i j s. refl) f x c isc (record { from = omega (arith, ap (λ s. s.head) e); below = omega (arith, ap (λ s. s.head) e) }) in
-    let one = f.once x (omega (arith, at.below, f.within b.scale b.level (b.number % slots_at shape.top b.level) at.there)) in
-    let ob = one.only _ _ _ at in
-    let oc = one.only _ _ _ on in
-    (oc.0 ∙ sym ob.0, oc.1 ∙ sym ob.1, oc.2 ∙ sym ob.2)
 
 -- behind the last level of the last scale there is nothing more
 last_end : (scales whole below : ℕ) → 1 ≤ scales → below ≡ whole → (scales - 1) * whole + below ≡ scales * whole

@@ -10,14 +10,14 @@ module _ (i p q : ℕ) where
     pub multiple : p % block_size i j ≡ 0
     pub ends : p + block_size i j ≤ q
 
-  pub Fits_from : (j : ℕ) → fits i p q j ≡ true → Fits j
-  Fits_from j e = let both = and_parts _ _ e in record { multiple = eqb-true _ _ both.0; ends = leb-true _ _ both.1 }
+  fits_means : (j : ℕ) → fits i p q j ≡ true → Fits j
+  fits_means j e = let both = and_parts _ _ e in record { multiple = eqb-true _ _ both.0; ends = leb-true _ _ both.1 }
 
-  pub fits_from : (j : ℕ) → Fits j → fits i p q j ≡ true
-  fits_from j f = and_from _ _ (eq-eqb _ _ f.multiple) (le-leb _ _ f.ends)
+  pub fits_when : (j : ℕ) → Fits j → fits i p q j ≡ true
+  fits_when j f = and_from _ _ (eq-eqb _ _ f.multiple) (le-leb _ _ f.ends)
 
-  pub fits_not : (j : ℕ) → (Fits j → ⊥) → fits i p q j ≡ false
-  fits_not j unfit = false_from_ne_true _ (λ e. unfit (Fits_from j e))
+  fits_not : (j : ℕ) → (Fits j → ⊥) → fits i p q j ≡ false
+  fits_not j unfit = false_from_ne_true _ (λ e. unfit (fits_means j e))
 
   -- a level fits, and none above it does
   pub record IsBest (top j : ℕ) : Type 0 where
@@ -29,7 +29,7 @@ module _ (i p q : ℕ) where
   pub best : (top : ℕ) → Fits 0 → IsBest top (level_at i p q top)
   best zero least = record { level = omega arith; here = least; above = λ h lo hi. absurd (omega arith) }
   best (suc t) least = ⊎_elim
-      (λ (e : fits i p q (suc t) ≡ true). rw e (record { level = omega arith; here = Fits_from (suc t) e; above = λ h lo hi. absurd (omega arith) }))
+      (λ (e : fits i p q (suc t) ≡ true). rw e (record { level = omega arith; here = fits_means (suc t) e; above = λ h lo hi. absurd (omega arith) }))
       (λ (e : fits i p q (suc t) ≡ false).
       let below = best t least in
       rw e (record {
@@ -46,7 +46,7 @@ module _ (i p q : ℕ) where
   pub level_is : (top j : ℕ) → j ≤ top → (0 < j → Fits j) → ((h : ℕ) → j < h → h ≤ top → Fits h → ⊥) → level_at i p q top ≡ j
   level_is zero j le fit unfit = omega arith
   level_is (suc t) j le fit unfit = ⊎_elim
-      (λ (e : j ≡ suc t). rw (fits_from (suc t) (subst Fits e (fit (omega arith)))) (sym e))
+      (λ (e : j ≡ suc t). rw (fits_when (suc t) (subst Fits e (fit (omega arith)))) (sym e))
       (λ (o : (j < suc t) ⊎ (suc t < j)). ⊎_elim
       (λ (u : j < suc t). rw (fits_not (suc t) (unfit (suc t) u (omega arith))) (level_is t j (omega arith) fit (λ h lo hi. unfit h lo (omega arith))))
       (λ (u : suc t < j). absurd (omega arith))

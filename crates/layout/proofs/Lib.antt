@@ -11,4 +11,5 @@ pub mod Multiples
 pub mod Nearness
 pub mod Scales
 pub mod Small
+pub mod Using
 pub mod Walks

@@ -12,8 +12,8 @@ a_unit_apart u p q hp hq h = ⊎_elim
     (cases_lt (p / u) (q / u))
 
 -- a multiple and a multiple make one
-pub together : (u p q : ℕ) → p % u ≡ 0 → q % u ≡ 0 → (p + q) % u ≡ 0
-together u p q hp hq = add-mod p q u ∙ ap (λ n. (n + q % u) % u) hp ∙ ap (λ n. (0 + n) % u) hq ∙ zero-mod u
+pub sum_of_multiples : (u p q : ℕ) → p % u ≡ 0 → q % u ≡ 0 → (p + q) % u ≡ 0
+sum_of_multiples u p q hp hq = add-mod p q u ∙ ap (λ n. (n + q % u) % u) hp ∙ ap (λ n. (0 + n) % u) hq ∙ zero-mod u
 
 -- a power is a multiple of the smaller ones
 pub power_of_more : (i j : ℕ) → 2 ^ (i + j) % 2 ^ i ≡ 0

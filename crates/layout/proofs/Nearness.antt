@@ -12,8 +12,8 @@ use Rattle.layout.proofs.Closed.{rows_and_one}
 use Rattle.layout.proofs.Scales.{smaller_short}
 
 -- what a block may lose is its part of a smallest block
-share : (top i j lost : ℕ) → lost * (rows_at top j + 1) ≤ block_size i j → lost * (top + 1) ≤ 2 ^ i
-share top i j lost h =
+part_lost : (top i j lost : ℕ) → lost * (rows_at top j + 1) ≤ block_size i j → lost * (top + 1) ≤ 2 ^ i
+part_lost top i j lost h =
     let whole : rows_at top j + 1 ≡ (top + 1) * 2 ^ j = rows_and_one top j ∙ mul_comm (2 ^ j) (top + 1) in
     le_of_mul-le-mul_right {k = 2 ^ j} (omega (arith, h, ap (λ k. lost * k) whole, mul_assoc lost (top + 1) (2 ^ j), pow-add 2 i j)) (pow_pos j)
 
@@ -23,7 +23,7 @@ module _ (top i : ℕ) (lost : Stretch → ℕ) (blocks : List Stretch) (few : l
   each_loses same little = λ k d there.
       let b = slice_index_or blocks k d in
       let s = same k d there in
-      le-div (lost b) (2 ^ i) (top + 1) (omega arith) (omega (arith, share b.top b.scale b.level (lost b) (little k d there), ap (λ t. lost b * (t + 1)) s.0, ap (λ h. 2 ^ h) s.1))
+      le-div (lost b) (2 ^ i) (top + 1) (omega arith) (omega (arith, part_lost b.top b.scale b.level (lost b) (little k d there), ap (λ t. lost b * (t + 1)) s.0, ap (λ h. 2 ^ h) s.1))
 
   all_lose : All (λ b. lost b ≤ 2 ^ i / (top + 1)) blocks → sum_by lost blocks ≤ 2 * (2 ^ i / (top + 1) * (top + 1))
   all_lose each =

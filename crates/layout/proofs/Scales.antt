@@ -18,21 +18,21 @@ module _ (top n : ℕ) where
     pub long : r < i + more → n ≤ 2 ^ (top + r)
     pub short : (h : ℕ) → i ≤ h → h < r → 2 ^ (top + h) < n
 
-  is_first : (i more r : ℕ) → IsFirst i more r → scale_from top n i more ≡ r
-  is_first i zero r first = omega (arith, first.from, first.below)
-  is_first i (suc more) r first = ⊎_elim
+  only_first : (i more r : ℕ) → IsFirst i more r → scale_from top n i more ≡ r
+  only_first i zero r first = omega (arith, first.from, first.below)
+  only_first i (suc more) r first = ⊎_elim
       (λ (e : i ≡ r). rw (le-leb n (2 ^ (top + i)) (subst (λ k. n ≤ 2 ^ (top + k)) (sym e) (first.long (omega arith)))) e)
       (λ (ne : i ≡ r → ⊥).
       let after : i + 1 ≤ r = omega (arith, first.from) in
       rw (lt-leb n (2 ^ (top + i)) (first.short i (omega arith) (omega (arith, after))))
-      (is_first (i + 1) more r (record { from = after; below = omega (arith, first.below); long = λ u. first.long (omega arith); short = λ h lo hi. first.short h (omega arith) hi })))
+      (only_first (i + 1) more r (record { from = after; below = omega (arith, first.below); long = λ u. first.long (omega arith); short = λ h lo hi. first.short h (omega arith) hi })))
       (cases_eq i r)
 
-  first_is : (i more : ℕ) → IsFirst i more (scale_from top n i more)
-  first_is i zero = record { from = omega arith; below = omega arith; long = λ u. absurd (omega arith); short = λ h lo hi. absurd (omega arith) }
-  first_is i (suc more) = ⊎_elim
+  first_found : (i more : ℕ) → IsFirst i more (scale_from top n i more)
+  first_found i zero = record { from = omega arith; below = omega arith; long = λ u. absurd (omega arith); short = λ h lo hi. absurd (omega arith) }
+  first_found i (suc more) = ⊎_elim
       (λ (u : 2 ^ (top + i) < n). rw (lt-leb n (2 ^ (top + i)) u)
-      (let rest = first_is (i + 1) more in record {
+      (let rest = first_found (i + 1) more in record {
         from = omega (arith, rest.from);
         below = omega (arith, rest.below);
         long = λ z. rest.long (omega arith);
@@ -50,7 +50,7 @@ module _ (top n : ℕ) where
       let length = leading_length 32 (n - 1) (omega arith) in
       let m : length.0 ≡ digits = omega (arith, length.1) in
       let enough : n ≤ 2 ^ digits = omega (arith, length.2, ap (λ k. 2 ^ k) m) in
-      is_first 0 (scales - 1) r (record {
+      only_first 0 (scales - 1) r (record {
         from = omega arith;
         below = omega arith;
         long = λ u. omega (arith, enough, pow_mono digits (top + r) (omega arith));
@@ -61,16 +61,16 @@ module _ (top n : ℕ) where
 
 -- no scale is behind the last
 pub scale_there : (shape : Shape) (n : ℕ) → 1 ≤ shape.scales → scale_of shape n < shape.scales
-scale_there shape n some = omega (arith, (first_is shape.top n 0 (shape.scales - 1)).below)
+scale_there shape n some = omega (arith, (first_found shape.top n 0 (shape.scales - 1)).below)
 
 -- all smaller scales are for shorter windows
 pub smaller_short : (shape : Shape) (n h : ℕ) → h < scale_of shape n → 2 ^ (shape.top + h) < n
-smaller_short shape n h lo = (first_is shape.top n 0 (shape.scales - 1)).short h (omega arith) lo
+smaller_short shape n h lo = (first_found shape.top n 0 (shape.scales - 1)).short h (omega arith) lo
 
 -- the scale that is for windows so long
 pub scale_right : (shape : Shape) (n : ℕ) → 1 ≤ shape.scales → n ≤ longest shape → IsScaleFor shape n (scale_of shape n)
 scale_right shape n some h =
-    let first = first_is shape.top n 0 (shape.scales - 1) in
+    let first = first_found shape.top n 0 (shape.scales - 1) in
     let r = scale_of shape n in
     record {
       there = omega (arith, first.below);
@@ -80,7 +80,3 @@ scale_right shape n some h =
           (cases_lt r (shape.scales - 1));
       least = λ h lo. smaller_short shape n h lo;
     }
-
--- a scale of a layout, as the code finds it: `inside` are the layout's fields, `now` is what callers see of it
-pub scale_found : (inside now : Shape) (n r : ℕ) → inside ≡ now → r ≡ scale_of now n → r ≡ scale_of inside n
-scale_found inside now n r same e = e ∙ ap (λ s. scale_of s n) (sym same)

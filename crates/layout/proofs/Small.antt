@@ -16,8 +16,8 @@ few_rows top h =
 few_heads : (top : ℕ) → top ≤ 9 → scale_heads top < 2 ^ 11
 few_heads top h = omega (arith, pow_mono (top + 1) 10 (omega arith))
 
-pub start_small : (top i j : ℕ) → IsLevel top i j → i * scale_rows top + rows_below top j + slots_at top j * rows_at top j < 2 ^ 21
-start_small top i j h = omega (arith, few_rows top h.highest, level_by (rows_at top) top (scale_rows top) (rows_of_scale top) 17 i j (omega (arith, h.lowest, h.scale)) h.level)
+pub rows_small : (top i j : ℕ) → IsLevel top i j → i * scale_rows top + rows_below top j + slots_at top j * rows_at top j < 2 ^ 21
+rows_small top i j h = omega (arith, few_rows top h.highest, level_by (rows_at top) top (scale_rows top) (rows_of_scale top) 17 i j (omega (arith, h.lowest, h.scale)) h.level)
 
-pub head_small : (top i j : ℕ) → IsLevel top i j → i * scale_heads top + heads_below top j + slots_at top j < 2 ^ 16
-head_small top i j h = omega (arith, few_heads top h.highest, level_by (λ k. 1) top (scale_heads top) (heads_of_scale top) 17 i j (omega (arith, h.lowest, h.scale)) h.level)
+pub heads_small : (top i j : ℕ) → IsLevel top i j → i * scale_heads top + heads_below top j + slots_at top j < 2 ^ 16
+heads_small top i j h = omega (arith, few_heads top h.highest, level_by (λ k. 1) top (scale_heads top) (heads_of_scale top) 17 i j (omega (arith, h.lowest, h.scale)) h.level)

@@ -4,12 +4,14 @@ use Rattle.layout.specs.Slots.{shape_of, scale_rows, scale_heads}
 use Rattle.layout.specs.Blocks.{size}
 use Rattle.layout.specs.Covers.{scale_of, start_of, end_of, cover_of, ignored_of}
 
--- the coarsest accuracy, a scale; and the finest with the longest span, in all
-pub record Needs : Type 0 where
-  pub coarse_rows : scale_rows (shape_of 1 20).top ≡ 519
-  pub coarse_heads : scale_heads (shape_of 1 20).top ≡ 36
-  pub fine_rows : (shape_of 6 20).scales * scale_rows (shape_of 6 20).top ≡ 724764
-  pub fine_heads : (shape_of 6 20).scales * scale_heads (shape_of 6 20).top ≡ 12396
+-- a scale at the coarsest accuracy, and all scales at the finest with the longest span
+pub record RowCases : Type 0 where
+  pub coarse : scale_rows (shape_of 1 20).top ≡ 519
+  pub fine : (shape_of 6 20).scales * scale_rows (shape_of 6 20).top ≡ 724764
+
+pub record HeadCases : Type 0 where
+  pub coarse : scale_heads (shape_of 1 20).top ≡ 36
+  pub fine : (shape_of 6 20).scales * scale_heads (shape_of 6 20).top ≡ 12396
 
 -- accuracy 1 and span 7: the newest 90 of 100 arrivals
 pub record Ninety : Type 0 where
@@ -19,7 +21,7 @@ pub record Ninety : Type 0 where
   pub sizes : map size (cover_of (shape_of 1 7) 100 90) ≡ 16 ∷ 32 ∷ 32 ∷ []
   pub ignored : ignored_of (shape_of 1 7) 100 90 ≡ 10
 
--- accuracy 1 and span 5: all 17 arrivals, of which the next scale leaves out one; and the newest 16 and 1 of them, of which none is left out
+-- accuracy 1 and span 5, after 17 arrivals: a window of all leaves out one, since its scale is the next; one of the newest 16, of the newest, and of none leave out nothing
 pub record Seventeen : Type 0 where
   pub all : map size (cover_of (shape_of 1 5) 17 17) ≡ 16 ∷ []
   pub one_ignored : ignored_of (shape_of 1 5) 17 17 ≡ 1

@@ -24,7 +24,7 @@ end_of i m = m - m % 2 ^ i
 abbrev pub fits : ℕ → ℕ → ℕ → ℕ → Bool
 fits i p q j = p % block_size i j == 0 && nat_le (p + block_size i j) q
 
--- the largest level, j at most, whose block can start at p
+-- the largest level, j at most, whose block can start at p and ends by q; 0 where there is none
 abbrev pub level_at : ℕ → ℕ → ℕ → ℕ → ℕ
 level_at i p q zero = 0
 level_at i p q (suc j) = if fits i p q (suc j) then suc j else level_at i p q j

@@ -22,20 +22,20 @@ pub record Fill (start each : Place → ℕ) (shape : Shape) (cells : ℕ) : Typ
   pub apart : (x : ℕ) (b c : Stretch) → IsBlock shape b → IsBlock shape c → HasCell start each x (slot_of b) → HasCell start each x (slot_of c) → slot_of b ≡ slot_of c
   pub within : (b : Stretch) → IsBlock shape b → start (slot_of b) + each (slot_of b) ≤ cells
 
--- their rows and their heads do
+-- they fill so many rows, and so many heads
 abbrev pub FillRows : Shape → ℕ → Type 0
 FillRows shape rows = Fill (λ p. p.start) (λ p. p.rows) shape rows
 
 abbrev pub FillHeads : Shape → ℕ → Type 0
 FillHeads shape heads = Fill (λ p. p.head) (λ p. 1) shape heads
 
--- a block of the shape that arrival m falls into
+-- a block that arrival m falls into
 pub record IsVisit (shape : Shape) (m : ℕ) (b : Stretch) : Type 0 where
   pub there : IsBlock shape b
   pub from : first b ≤ m
   pub below : m < first b + size b
 
--- the longest windows
+-- how many keys the longest windows have
 abbrev pub longest : Shape → ℕ
 longest shape = 2 ^ (shape.top + (shape.scales - 1))
 
@@ -50,7 +50,7 @@ pub record IsScaleFor (shape : Shape) (n i : ℕ) : Type 0 where
   pub long : n ≤ 2 ^ (shape.top + i)
   pub least : (h : ℕ) → h < i → 2 ^ (shape.top + h) < n
 
--- p and q are the first and the last multiple of a smallest block of scale i that there is from the beginning to the end of the newest n of m arrivals
+-- p is the first multiple of a smallest block of scale i from where the newest n of m arrivals begin, and q the last up to where they end
 pub record AreEnds (i m n p q : ℕ) : Type 0 where
   pub ordered : p ≤ q
   pub from : m - n ≤ p
@@ -90,7 +90,7 @@ pub record IsCoverFrom (shape : Shape) (m n p q : ℕ) (blocks : List Stretch) (
 abbrev pub IsCover : Shape → ℕ → ℕ → List Stretch → ℕ → Type 0
 IsCover shape m n blocks ignored = IsCoverFrom shape m n (start_of (scale_of shape n) m n) (end_of (scale_of shape n) m) blocks ignored
 
--- a block loses no more than one tally step in rows + 1 can: the rows are those of its slot
+-- a block lost at most one for each R + 1 of its arrivals, where R is the rows of its slot
 abbrev pub LosesLittle : (Stretch → ℕ) → Stretch → Type 0
 LosesLittle lost b = lost b * (rows_at b.top b.level + 1) ≤ size b
 

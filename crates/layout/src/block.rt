@@ -6,7 +6,7 @@ use crate::level::Level;
 use crate::place::Place;
 use std::marker::Model;
 
-/// A block: of a level of a scale, and which of that level's blocks it is, counted from the first arrival on.
+/// A block: so many arrivals in a row, of a level of a scale. The blocks of a level are numbered from the first arrival on.
 #[derive(Clone, Copy, PartialEq, Eq, Debug)]
 pub struct Block {
     pub(crate) level: Level,
@@ -43,16 +43,16 @@ impl Block {
         1 << self.level.exponent()
     }
 
-    /// Where the slot lies that it uses.
+    /// The place of the slot that it uses.
     pub fn place(&self) -> Place
         ensures { result ≡ slot_of self.now }
     {
         let turn = (self.number % self.level.slots()) as usize;
         let rows = self.level.rows();
         Place {
-            start: self.level.start() + turn * rows,
+            start: self.level.first_row() + turn * rows,
             rows,
-            head: self.level.head() + turn,
+            head: self.level.first_head() + turn,
         }
     }
 }

@@ -2,8 +2,8 @@
 
 use crate::walk::Walk;
 
-/// What answers for a window: blocks that lie inside it, one behind the other, and how many of its keys are in none of them.
-#[derive(Drop)]
+/// Blocks that lie inside a window, one behind the other, and how many of its arrivals are in none of them.
+#[derive(Debug, Drop)]
 pub struct Cover {
     pub blocks: Walk,
     pub ignored: u32,

@@ -3,7 +3,7 @@
 ghost use Rattle.std.specs.Int.{leading_zeros, w32};
 ghost use Rattle.std.specs.Prelude.{◌≡◌, ◌+◌, ◌-◌, ◌*◌, ◌^◌, ◌<◌, ◌≤◌, All, Contains};
 ghost use Rattle.layout.specs.Blocks.{Stretch, visits_of};
-ghost use Rattle.layout.specs.Cases.{Needs, Ninety, Seventeen};
+ghost use Rattle.layout.specs.Cases.{HeadCases, Ninety, RowCases, Seventeen};
 ghost use Rattle.layout.specs.Covers.{cover_of, end_of, ignored_of, scale_of, start_of};
 ghost use Rattle.layout.specs.Inside.{IsLevel, IsShape, IsWalk};
 ghost use Rattle.layout.specs.Laws.{AreEnds, FillHeads, FillRows, IsCover, IsNear, IsScaleFor, IsVisit, IsWindow, longest};
@@ -16,8 +16,12 @@ use crate::walk::Walk;
 use settings::Setting;
 use std::marker::Model;
 
-/// The scales of a setting, their levels, and the slots of these in two tables: a few numbers, from which each place is worked
-/// out anew.
+/// The layout of a ladder, a keeper of many small tallies: for each of many blocks of arrivals one.
+///
+/// At accuracy a and span K, with L = a + 3, there is a scale for windows of up to 2^L keys, one for those of up to 2^(L + 1), and so on
+/// to 2^K; they are counted from 0. Scale i has levels 0 to L, and a block of level j holds 2^(i + j) arrivals. A level has
+/// 2^(L - j) + 1 slots, which its blocks use in turn, each of 2^j * (L + 1) - 1 rows and one head; they lie by scale, then by level,
+/// then by slot. None of that is kept in a table: each place is worked out anew.
 #[derive(Clone, Copy, PartialEq, Eq, Debug)]
 pub struct Layout {
     top: u32,
@@ -49,8 +53,7 @@ struct Edges {
 impl Layout {
     /// The layout of a setting.
     pub fn of(setting: Setting) -> Layout
-        ensures value { result ≡ shape_of setting.accuracy setting.span }
-        ensures cases { Needs }
+        ensures { result ≡ shape_of setting.accuracy setting.span }
     {
         let top = setting.accuracy() + 3;
         Layout {
@@ -64,9 +67,10 @@ impl Layout {
         ensures value { result ≡ self.now.scales * scale_rows self.now.top }
         ensures sum { result ≡ self.now.scales * rows_below self.now.top (self.now.top + 1) }
         ensures filled { FillRows self.now result }
+        ensures cases { RowCases }
     {
         let last = self.last_level();
-        last.start() + last.slots() as usize * last.rows()
+        last.first_row() + last.slots() as usize * last.rows()
     }
 
     /// How many heads the slots take: one each.
@@ -74,9 +78,10 @@ impl Layout {
         ensures value { result ≡ self.now.scales * scale_heads self.now.top }
         ensures sum { result ≡ self.now.scales * heads_below self.now.top (self.now.top + 1) }
         ensures filled { FillHeads self.now result }
+        ensures cases { HeadCases }
     {
-        let end = self.last_level();
-        end.head() + end.slots() as usize
+        let last = self.last_level();
+        last.first_head() + last.slots() as usize
     }
 
     // The last level of the last scale: behind its slots there are none.
@@ -91,7 +96,7 @@ impl Layout {
         }
     }
 
-    /// The scale that answers for windows of this size: the smallest that is for windows so long.
+    /// The scale that answers for windows of this size: the smallest that is for windows so long, or the last where none is.
     pub fn scale_of(&self, window: u32) -> u32
         ensures value { result ≡ scale_of self.now window }
         ensures there { IsLevel self.now.top result 0 }
@@ -115,7 +120,11 @@ impl Layout {
         }
     }
 
-    /// The blocks that answer for the newest `window` of `arrivals` keys.
+    /// The blocks that answer for a window: the newest `window` of so many arrivals.
+    ///
+    /// From the window's beginning, rounded up to a multiple of its scale's smallest block, to its end, rounded down, they are the
+    /// largest that can be taken one after the other. For numbers that are no window, the same is answered: it begins at the first
+    /// arrival, or is answered for by the last scale.
     pub fn cover(&self, arrivals: u32, window: u32) -> Cover
         ensures blocks { result.blocks ≡ cover_of self.now arrivals window }
         ensures ignored { result.ignored ≡ ignored_of self.now arrivals window }
@@ -154,15 +163,15 @@ impl Layout {
     }
 }
 
-// The least power of 2 that is no less than a window's size, as its exponent: the digits that the number before has in binary.
+// The exponent of the least power of 2 that a window fits in: as many digits as the number before its size has in binary.
 fn digits(window: u32) -> u32
     ensures { result ≡ 32 - leading_zeros w32 (window - 1) }
 {
     u32::BITS - window.saturating_sub(1).leading_zeros()
 }
 
-// Where the cover of a window begins: at the window's first key, rounded up to a multiple of the scale's smallest block. The
-// block that the window's edge cuts is left out.
+// Where a cover begins: at the window's first arrival, rounded up to a multiple of the scale's smallest block. So a block that the
+// window's edge cuts is left out.
 fn cover_start(scale: u32, arrivals: u32, window: u32) -> u32
     requires { (scale ≤ 16) × (start_of scale arrivals window < 2 ^ 32) }
     ensures { result ≡ start_of scale arrivals window }
@@ -170,7 +179,7 @@ fn cover_start(scale: u32, arrivals: u32, window: u32) -> u32
     arrivals.saturating_sub(window).next_multiple_of(1 << scale)
 }
 
-// Where it ends: behind the last key that came, rounded down.
+// Where it ends: behind the last arrival, rounded down.
 fn cover_end(scale: u32, arrivals: u32) -> u32
     requires { scale ≤ 16 }
     ensures { result ≡ end_of scale arrivals }

@@ -5,7 +5,7 @@ ghost use Rattle.layout.specs.Slots.{block_size, heads_below, rows_at, rows_belo
 
 use std::marker::Model;
 
-// A level: `top` is the number of its scale's last level.
+// A level of a scale: `top` is the number of that scale's last level.
 #[derive(Clone, Copy, PartialEq, Eq, Debug)]
 pub(crate) struct Level {
     pub(crate) top: u32,
@@ -35,8 +35,7 @@ impl Level {
         self.scale + self.number
     }
 
-    // How many slots it has: one more than the blocks of its size in the longest window, of which the oldest may be cut by the
-    // window's edge.
+    // How many slots it has: as many as blocks of its size can touch its scale's longest window, whose edge can cut the oldest.
     pub(crate) fn slots(&self) -> u32
         ensures { result ≡ slots_at self.now.top self.now.number }
     {
@@ -51,7 +50,7 @@ impl Level {
     }
 
     // Its first row.
-    pub(crate) fn start(&self) -> usize
+    pub(crate) fn first_row(&self) -> usize
         ensures value { result ≡ self.now.scale * scale_rows self.now.top + rows_below self.now.top self.now.number }
         ensures small { result + slots_at self.now.top self.now.number * rows_at self.now.top self.now.number < 2 ^ 21 }
     {
@@ -59,7 +58,7 @@ impl Level {
     }
 
     // Its first head.
-    pub(crate) fn head(&self) -> usize
+    pub(crate) fn first_head(&self) -> usize
         ensures value { result ≡ self.now.scale * scale_heads self.now.top + heads_below self.now.top self.now.number }
         ensures small { result + slots_at self.now.top self.now.number < 2 ^ 16 }
     {
@@ -74,7 +73,8 @@ fn power(exponent: u32) -> usize
     1 << exponent
 }
 
-// How many rows the levels below this one have.
+// How many rows the levels below this one have. Level j has (2^top + 2^j) * (top + 1) rows, less one for each of its slots, of which
+// there are 2^(top - j) + 1; over the levels, powers of 2 in a row add up to two of them.
 fn below_rows(top: u32, level: u32) -> usize
     requires { (top ≤ 9) × (level ≤ top + 1) }
     ensures { result ≡ rows_below top level }

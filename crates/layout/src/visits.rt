@@ -1,11 +1,11 @@
-//! The blocks that an arrival falls into.
+//! From an arrival to its blocks.
 
 use crate::block::Block;
 use crate::level::Level;
 use std::marker::Model;
 
-/// The blocks that an arrival falls into, at the scales and levels that are left.
-#[derive(Drop)]
+/// The blocks that an arrival falls into, as far as they are left.
+#[derive(Debug, Drop)]
 pub struct Visits {
     pub(crate) top: u32,
     pub(crate) scales: u32,

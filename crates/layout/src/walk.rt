@@ -10,7 +10,7 @@ use crate::level::Level;
 use std::marker::Model;
 
 /// The blocks of a cover that are left, oldest first.
-#[derive(Drop)]
+#[derive(Debug, Drop)]
 pub struct Walk {
     pub(crate) top: u32,
     pub(crate) scale: u32,
@@ -31,9 +31,9 @@ impl Model for Walk {
     ghost invariant = { λ w. IsWalk w.top w.scale w.position w.end };
 }
 
-// The largest level whose block can start at a position and ends by another: no more zeros stand behind the position in
-// binary, and it is not longer than what is left.
-fn level_at(scale: u32, position: u32, end: u32, top: u32) -> u32
+// The largest level whose block can start at a position and ends by `end`. As an exponent of 2, its size is no more than the zeros
+// that end the position in binary, and no more than fits in what is left.
+fn level_at(top: u32, scale: u32, position: u32, end: u32) -> u32
     requires { (position < end) × (top + scale ≤ 20) }
     ensures { result ≡ level_at scale position end top }
 {
@@ -44,7 +44,7 @@ fn level_at(scale: u32, position: u32, end: u32, top: u32) -> u32
         .min(top)
 }
 
-// The largest block that can start at a position and ends by another.
+// That block.
 fn block_at(top: u32, scale: u32, position: u32, end: u32) -> Block
     requires { IsWalk top scale position end × position < end }
     ensures value { result ≡ block_of top position scale (level_at scale position end top) }
@@ -53,7 +53,7 @@ fn block_at(top: u32, scale: u32, position: u32, end: u32) -> Block
     let level = Level {
         top,
         scale,
-        number: level_at(scale, position, end, top),
+        number: level_at(top, scale, position, end),
     };
     Block {
         level,

@@ -2,11 +2,19 @@
 
 use crate::compared::Compared;
 use crate::draws::Draws;
-use crate::places::is_block_of;
 use crate::plan::{Plan, doubled};
 use layout::{Cover, Layout, Walk};
 
-// All windows of the first arrivals where the span is short, and some that are drawn, short and long ones.
+// As many arrivals as there can ever be.
+const MOST_ARRIVALS: u32 = 1 << 30;
+
+// So many windows are drawn of each number of arrivals' digits in binary, and for each scale's ends.
+const DRAWN_WINDOWS: u32 = 40;
+
+const DRAWN_AT_ENDS: u32 = 5;
+
+// All windows of the first arrivals where the span is short; those that just fit a scale, and one more or less; and some that are
+// drawn, short and long ones.
 pub(crate) fn compare(layout: &Layout, plan: &Plan, draws: &mut Draws, compared: &mut Compared) {
     let longest = doubled(1, plan.span);
     if plan.span < 8 {
@@ -16,65 +24,85 @@ pub(crate) fn compare(layout: &Layout, plan: &Plan, draws: &mut Draws, compared:
             }
         }
     }
-    for bits in 0..25 {
-        for _ in 0..40 {
-            let arrivals = draws
-                .bits(bits)
-                .saturating_mul(64)
-                .saturating_add(draws.bits(6));
-            let size = draws.bits(5).min(plan.span);
-            let window = draws
-                .bits(size)
-                .saturating_add(1)
-                .min(longest)
-                .min(arrivals);
+    for bits in 0..plan.span.saturating_add(1) {
+        compare_ends(layout, plan, doubled(1, bits), draws, compared);
+    }
+    for bits in 1..31 {
+        for _ in 0..DRAWN_WINDOWS {
+            let arrivals = draws.bits(bits);
+            let digits = draws.bits(5).min(plan.span);
+            let window = draws.bits(digits).min(longest).min(arrivals);
             compare_cover(layout, plan, arrivals, window, compared);
         }
     }
 }
 
-// A scale, by its place among all, and the arrivals in its smallest block.
+// Windows of just so many, and one more or less, as far as there are such.
+fn compare_ends(
+    layout: &Layout,
+    plan: &Plan,
+    most: u32,
+    draws: &mut Draws,
+    compared: &mut Compared,
+) {
+    let longest = doubled(1, plan.span);
+    for window in most.saturating_sub(1)..most.saturating_add(2) {
+        let window = window.min(longest);
+        compare_cover(layout, plan, window, window, compared);
+        compare_cover(layout, plan, MOST_ARRIVALS, window, compared);
+        for _ in 0..DRAWN_AT_ENDS {
+            let arrivals = draws.bits(30).max(window);
+            compare_cover(layout, plan, arrivals, window, compared);
+        }
+    }
+}
+
+// A scale, by its number, and the arrivals in its smallest block.
 #[derive(Drop)]
 struct Scale {
-    place: u32,
+    number: u32,
     unit: u32,
 }
 
 // The first scale that is for windows so long.
 fn scale_of(plan: &Plan, window: u32) -> Scale {
-    let mut scale = Scale { place: 0, unit: 1 };
+    let mut scale = Scale { number: 0, unit: 1 };
     for span in plan.top..plan.span {
         if window <= doubled(1, span) {
             break;
         }
-        scale.place = scale.place.saturating_add(1);
+        scale.number = scale.number.saturating_add(1);
         scale.unit = scale.unit.saturating_mul(2);
     }
     scale
 }
 
+fn is_multiple(number: u32, unit: u32) -> bool {
+    number.checked_rem(unit) == Some(0)
+}
+
 // The first multiple from a number on.
 fn up_to_multiple(number: u32, unit: u32) -> u32 {
-    let mut place = number;
+    let mut multiple = number;
     for _ in 0..unit {
-        if place.checked_rem(unit) == Some(0) {
+        if is_multiple(multiple, unit) {
             break;
         }
-        place = place.saturating_add(1);
+        multiple = multiple.saturating_add(1);
     }
-    place
+    multiple
 }
 
 // The last multiple up to a number.
 fn down_to_multiple(number: u32, unit: u32) -> u32 {
-    let mut place = number;
+    let mut multiple = number;
     for _ in 0..unit {
-        if place.checked_rem(unit) == Some(0) {
+        if is_multiple(multiple, unit) {
             break;
         }
-        place = place.saturating_sub(1);
+        multiple = multiple.saturating_sub(1);
     }
-    place
+    multiple
 }
 
 fn compare_cover(
@@ -88,12 +116,12 @@ fn compare_cover(
     let start = up_to_multiple(arrivals.saturating_sub(window), scale.unit);
     let end = down_to_multiple(arrivals, scale.unit);
     let Cover { blocks, ignored } = layout.cover(arrivals, window);
-    compared.note(layout.scale_of(window) == scale.place);
-    compared.note(ignored == window.saturating_sub(end.saturating_sub(start)));
-    compare_walk(plan, &scale, start, end, blocks, compared);
+    compared.note(layout.scale_of(window) == scale.number);
+    let covered = compare_walk(plan, &scale, start, end, blocks, compared);
+    compared.note(covered.saturating_add(ignored) == window);
 }
 
-// From block to block: each is the largest that can start where the one before it ended.
+// From block to block: each is the largest that can start where the one before it ended. How many arrivals they hold.
 fn compare_walk(
     plan: &Plan,
     scale: &Scale,
@@ -101,30 +129,30 @@ fn compare_walk(
     end: u32,
     blocks: Walk,
     compared: &mut Compared,
-) {
-    let mut place = start;
+) -> u32 {
+    let mut position = start;
+    let mut covered: u32 = 0;
     for block in blocks {
-        let level = level_at(plan, scale, place, end);
-        let index = scale
-            .place
-            .saturating_mul(plan.top.saturating_add(1))
-            .saturating_add(level);
-        let same = match plan.levels.get(index as usize) {
-            Some(counted) => is_block_of(&block, counted, place),
+        let level = level_at(plan, scale, position, end);
+        let below = scale.number.saturating_mul(plan.top.saturating_add(1));
+        let same = match plan.levels.get(below.saturating_add(level) as usize) {
+            Some(counted) => counted.is_level_of(&block, position),
             None => false,
         };
         compared.note(same);
-        place = place.saturating_add(doubled(scale.unit, level));
+        let size = doubled(scale.unit, level);
+        position = position.saturating_add(size);
+        covered = covered.saturating_add(size);
     }
-    compared.note(place == end);
+    compared.note(position == end);
+    covered
 }
 
-// The largest level whose block can start at a place and ends by another, from the largest down.
-fn level_at(plan: &Plan, scale: &Scale, place: u32, end: u32) -> u32 {
-    for below in 0..plan.top {
-        let level = plan.top.saturating_sub(below);
+// The largest level whose block can start at a position and ends by another, from the largest down.
+fn level_at(plan: &Plan, scale: &Scale, position: u32, end: u32) -> u32 {
+    for level in (1..plan.top.saturating_add(1)).rev() {
         let size = doubled(scale.unit, level);
-        if place.checked_rem(size) == Some(0) && size <= end.saturating_sub(place) {
+        if is_multiple(position, size) && size <= end.saturating_sub(position) {
             return level;
         }
     }

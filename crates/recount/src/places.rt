@@ -2,20 +2,24 @@
 
 use crate::compared::Compared;
 use crate::draws::Draws;
-use crate::plan::{Level, Plan};
-use layout::{Block, Layout};
+use crate::plan::Plan;
+use layout::Layout;
 
-// The needs, and the blocks of the first arrivals and of some that are drawn.
+// So many arrivals are looked at from the first on, and so many are drawn of each number of digits in binary.
+const FIRST_ARRIVALS: u32 = 2_000;
+
+const DRAWN_ARRIVALS: u32 = 20;
+
+// The needs, and the blocks of the first arrivals and of some that are drawn, up to 2^30.
 pub(crate) fn compare(layout: &Layout, plan: &Plan, draws: &mut Draws, compared: &mut Compared) {
     compared.note(layout.rows() == plan.rows);
     compared.note(layout.heads() == plan.heads);
-    for arrival in 0..2_000 {
+    for arrival in 0..FIRST_ARRIVALS {
         compare_visits(layout, plan, arrival, compared);
     }
-    for bits in 0..25 {
-        for _ in 0..20 {
-            let arrival = draws.bits(bits).saturating_mul(64);
-            compare_visits(layout, plan, arrival, compared);
+    for bits in 1..31 {
+        for _ in 0..DRAWN_ARRIVALS {
+            compare_visits(layout, plan, draws.bits(bits), compared);
         }
     }
 }
@@ -24,24 +28,10 @@ fn compare_visits(layout: &Layout, plan: &Plan, arrival: u32, compared: &mut Com
     let mut visits = layout.visits(arrival);
     for level in plan.levels.iter() {
         let same = match visits.next() {
-            Some(block) => is_block_of(&block, level, arrival),
+            Some(block) => level.is_level_of(&block, arrival),
             None => false,
         };
         compared.note(same);
     }
     compared.note(visits.next().is_none());
-}
-
-// Whether a block is the one of this level that an arrival falls into, and lies where that was counted out.
-pub(crate) fn is_block_of(block: &Block, level: &Level, arrival: u32) -> bool {
-    let number = arrival.checked_div(level.size).unwrap_or(0);
-    let place = (number as usize)
-        .checked_rem(level.slots.len())
-        .unwrap_or(0);
-    let begins = number.saturating_mul(level.size);
-    let there = match level.slots.get(place) {
-        Some(slot) => *slot == block.place(),
-        None => false,
-    };
-    block.size() == level.size && block.first() == begins && there
 }

@@ -1,16 +1,16 @@
 //! The slots of a setting, counted out.
 
-use layout::Place;
+use layout::{Block, Place};
 use std::alloc::{AllocError, Global};
 
-// A level: how many arrivals its blocks hold, and its slots.
+// A level: how many arrivals its blocks hold, and the places of its slots.
 #[derive(Drop)]
 pub(crate) struct Level {
-    pub(crate) size: u32,
-    pub(crate) slots: Vec<Place>,
+    size: u32,
+    slots: Vec<Place>,
 }
 
-// The levels of all scales in order, how many each scale has, and the rows and heads of them all.
+// The levels of all scales in order, and the rows and heads that they take. `top` is the number of a scale's last level.
 #[derive(Drop)]
 pub(crate) struct Plan {
     pub(crate) top: u32,
@@ -64,5 +64,19 @@ impl Plan {
             self.heads = self.heads.saturating_add(1);
         }
         Ok(slots)
+    }
+}
+
+impl Level {
+    // Whether a block is the one of this level that an arrival falls into, and its slot lies where that was counted out.
+    pub(crate) fn is_level_of(&self, block: &Block, arrival: u32) -> bool {
+        let number = arrival.checked_div(self.size).unwrap_or(0);
+        let turn = (number as usize).checked_rem(self.slots.len()).unwrap_or(0);
+        let first = number.saturating_mul(self.size);
+        let lies_there = match self.slots.get(turn) {
+            Some(place) => *place == block.place(),
+            None => false,
+        };
+        block.size() == self.size && block.first() == first && lies_there
     }
 }

@@ -4,7 +4,7 @@ use Rattle.layout.specs.Covers.{level_at}
 use Rattle.layout.specs.Inside.{IsWalk, IsLevel}
 use Rattle.layout.proofs.Answering.{best_there}
 use Rattle.layout.proofs.Largest.{IsBest}
-use Rattle.layout.proofs.Multiples.{together, power_of_more}
+use Rattle.layout.proofs.Multiples.{sum_of_multiples, power_of_more}
 use Rattle.layout.proofs.walk.block_at.Goals as goal
 
 -- the level that was found fits: where its block ends is no further than the end
@@ -19,7 +19,7 @@ module _ (top i p q j : ℕ) (walks : IsWalk top i p q) (before : p < q) (e : j 
   walks_on = record {
     there = walks.there;
     ordered = best_at.here.ends;
-    start = together (2 ^ i) p (block_size i j) walks.start (power_of_more i j);
+    start = sum_of_multiples (2 ^ i) p (block_size i j) walks.start (power_of_more i j);
     end = walks.end;
   }
 

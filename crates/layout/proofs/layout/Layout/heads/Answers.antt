@@ -1,11 +1,12 @@
 use Rattle.std.proofs.Common.{◌∙◌, ◌*◌, sym, ap, subst}
 use Rattle.layout.specs.Laws.{FillHeads}
 use Rattle.layout.proofs.Closed.{heads_of_scale}
-use Rattle.layout.proofs.Filling.{heads_end, heads_filled}
+use Rattle.layout.proofs.Filling.{heads_end}
+use Rattle.layout.proofs.Using.{heads_filled}
 use Rattle.layout.proofs.layout.Layout.heads.Goals as goal
 
 pub returns-clause-value : goal.returns-clause-value
-returns-clause-value c = let shape = c.args.self.now in rw (c.head.ensures.value, c.slots.ensures, c.last_level-end.ensures.value) (heads_end shape.top shape.scales c.last_level-end.ensures.some)
+returns-clause-value c = let shape = c.args.self.now in rw (c.first_head.ensures.value, c.slots.ensures, c.last_level-last.ensures.value) (heads_end shape.top shape.scales c.last_level-last.ensures.some)
 
 pub returns-clause-sum : goal.returns-clause-sum
 returns-clause-sum c = let shape = c.args.self.now in returns-clause-value c ∙ ap (λ n. shape.scales * n) (sym (heads_of_scale shape.top))

@@ -1,11 +1,12 @@
 use Rattle.std.proofs.Common.{◌∙◌, ◌*◌, sym, ap, subst}
 use Rattle.layout.specs.Laws.{FillRows}
 use Rattle.layout.proofs.Closed.{rows_of_scale}
-use Rattle.layout.proofs.Filling.{rows_end, rows_filled}
+use Rattle.layout.proofs.Filling.{rows_end}
+use Rattle.layout.proofs.Using.{rows_filled}
 use Rattle.layout.proofs.layout.Layout.rows.Goals as goal
 
 pub returns-clause-value : goal.returns-clause-value
-returns-clause-value c = let shape = c.args.self.now in rw (c.start.ensures.value, c.slots.ensures, c.rows.ensures, c.last_level-last.ensures.value) (rows_end shape.top shape.scales c.last_level-last.ensures.some)
+returns-clause-value c = let shape = c.args.self.now in rw (c.first_row.ensures.value, c.slots.ensures, c.rows.ensures, c.last_level-last.ensures.value) (rows_end shape.top shape.scales c.last_level-last.ensures.some)
 
 pub returns-clause-sum : goal.returns-clause-sum
 returns-clause-sum c = let shape = c.args.self.now in returns-clause-value c ∙ ap (λ n. shape.scales * n) (sym (rows_of_scale shape.top))
