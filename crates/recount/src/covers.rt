@@ -16,12 +16,9 @@ const DRAWN_AT_ENDS: u32 = 5;
 // All windows of the first arrivals where the span is short; those that just fit a scale, and one more or less; and some that are
 // drawn, short and long ones.
 pub(crate) fn compare(layout: &Layout, plan: &Plan, draws: &mut Draws, compared: &mut Compared) {
-    let longest = doubled(1, plan.span);
-    if plan.span < 8 {
-        for arrivals in 0..longest.saturating_mul(3) {
-            for window in 0..longest.min(arrivals).saturating_add(1) {
-                compare_cover(layout, plan, arrivals, window, compared);
-            }
+    for arrivals in 0..plan.few_arrivals() {
+        for window in 0..plan.longest().min(arrivals).saturating_add(1) {
+            compare_cover(layout, plan, arrivals, window, compared);
         }
     }
     for bits in 0..plan.span.saturating_add(1) {
@@ -31,7 +28,7 @@ pub(crate) fn compare(layout: &Layout, plan: &Plan, draws: &mut Draws, compared:
         for _ in 0..DRAWN_WINDOWS {
             let arrivals = draws.bits(bits);
             let digits = draws.bits(5).min(plan.span);
-            let window = draws.bits(digits).min(longest).min(arrivals);
+            let window = draws.bits(digits).min(plan.longest()).min(arrivals);
             compare_cover(layout, plan, arrivals, window, compared);
         }
     }
@@ -45,9 +42,8 @@ fn compare_ends(
     draws: &mut Draws,
     compared: &mut Compared,
 ) {
-    let longest = doubled(1, plan.span);
     for window in most.saturating_sub(1)..most.saturating_add(2) {
-        let window = window.min(longest);
+        let window = window.min(plan.longest());
         compare_cover(layout, plan, window, window, compared);
         compare_cover(layout, plan, MOST_ARRIVALS, window, compared);
         for _ in 0..DRAWN_AT_ENDS {

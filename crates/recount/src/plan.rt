@@ -3,6 +3,9 @@
 use layout::{Block, Place};
 use std::alloc::{AllocError, Global};
 
+// Spans below this one are short: so many arrivals as three of their longest windows are gone through one by one.
+const LONG_SPAN: u32 = 8;
+
 // A level: how many arrivals its blocks hold, and the places of its slots.
 #[derive(Drop)]
 pub(crate) struct Level {
@@ -47,6 +50,20 @@ impl Plan {
             }
         }
         Ok(plan)
+    }
+
+    // How many arrivals are gone through one by one.
+    pub(crate) fn few_arrivals(&self) -> u32 {
+        if self.span < LONG_SPAN {
+            doubled(3, self.span)
+        } else {
+            0
+        }
+    }
+
+    // How many keys the longest windows have.
+    pub(crate) fn longest(&self) -> u32 {
+        doubled(1, self.span)
     }
 
     // The next slots, of a level: in as many rows and heads as they need.
