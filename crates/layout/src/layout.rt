@@ -41,7 +41,7 @@ impl Model for Layout {
     ghost inverse = { λ s. record { top = s.top; scales = s.scales } };
 }
 
-// A window's scale, and where its cover begins and ends.
+// Where a cover lies: at a scale, from one arrival to another. `top` is the number of the scale's last level.
 #[derive(Drop)]
 struct Edges {
     top: u32,
@@ -66,6 +66,7 @@ impl Layout {
     pub fn rows(&self) -> usize
         ensures value { result ≡ self.now.scales * scale_rows self.now.top }
         ensures sum { result ≡ self.now.scales * rows_below self.now.top (self.now.top + 1) }
+        ensures few { result < 2 ^ 21 }
         ensures filled { FillRows self.now result }
         ensures cases { RowCases }
     {
@@ -77,6 +78,7 @@ impl Layout {
     pub fn heads(&self) -> usize
         ensures value { result ≡ self.now.scales * scale_heads self.now.top }
         ensures sum { result ≡ self.now.scales * heads_below self.now.top (self.now.top + 1) }
+        ensures few { result < 2 ^ 16 }
         ensures filled { FillHeads self.now result }
         ensures cases { HeadCases }
     {
@@ -144,6 +146,7 @@ impl Layout {
         }
     }
 
+    // Where a window's cover lies.
     fn edges(&self, arrivals: u32, window: u32) -> Edges
         ensures walk { IsWalk result.top result.scale result.start result.end }
         ensures shape { IsShape self.now.top self.now.scales }
