@@ -8,7 +8,7 @@ use Rattle.std.specs.Int.{bit_at, trailing_zeros}
 use Rattle.std.specs.Int.Count.{trailing_of_zero}
 use Rattle.layout.proofs.Closed.{pow_mono}
 
--- the next_digit at place e, and those behind it
+-- the digit at place e, and those behind it
 pub next_digit : (n e : ℕ) → n % 2 ^ (1 + e) ≡ bit_at n e * 2 ^ e + n % 2 ^ e
 next_digit n e = mod-pow-add n 1 e
 

@@ -7,7 +7,7 @@ use Rattle.layout.specs.Slots.{slots_at, rows_at, rows_below, heads_below, scale
 pub pow_mono : (i j : ℕ) → i ≤ j → 2 ^ i ≤ 2 ^ j
 pow_mono i j h = pow-le-pow_right (omega arith) h
 
--- a slot's rows and one more
+-- the rows of a slot, and one more
 pub rows_and_one : (top j : ℕ) → rows_at top j + 1 ≡ 2 ^ j * (top + 1)
 rows_and_one top j = omega (arith, mul-le-mul_right {m = 1} {n = 2 ^ j} (top + 1) (pow_pos j), one-mul (top + 1))
 

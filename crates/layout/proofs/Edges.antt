@@ -39,7 +39,7 @@ module _ (u : ℕ) (pos : 0 < u) where
       record { above = omega arith; near = omega (arith, mod_below x u pos); multiple = ap (λ n. n % u) next ∙ sum_of_multiples u (x - x % u) u ((rounded_down x).multiple) (mod_self u) })
       (cases_eq (x % u) 0)
 
--- a smallest block is not longer than the window, but where it holds one arrival
+-- a smallest block is not longer than the window, unless it holds one arrival
 abbrev IsShort : ℕ → ℕ → Type 0
 IsShort i n = (i ≡ 0) ⊎ (2 ^ i ≤ n)
 

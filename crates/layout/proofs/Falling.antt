@@ -29,7 +29,7 @@ module _ (shape : Shape) (m : ℕ) where
       (levels_there i (shape.top + 1) 0 (omega arith) (omega arith))
       (scales_there n (i + 1) (omega arith))
 
-  -- and so is each of them
+  -- whatever m falls into is among them
   in_levels : (n i j k : ℕ) → j ≤ k → k < j + n → Contains (blocks_from shape.top m i j n) (block_of shape.top m i k)
   in_levels zero i j k lo hi = absurd (omega arith)
   in_levels (suc n) i j k lo hi = ⊎_elim

@@ -1,4 +1,4 @@
--- A walk has few_growing blocks: they grow, and then they shrink. Assumes nothing.
+-- A walk has few blocks: they grow, and then they shrink. Assumes nothing.
 use Rattle.std.proofs.Common.{◌≡◌, ℕ, zero, suc, ◌+◌, ◌-◌, ◌*◌, ◌/◌, ◌%◌, ◌^◌, ◌<◌, ◌≤◌, ⊎_elim, length, ap, refl, ◌∙◌, arith, zero-mul, add-zero}
 use Rattle.std.proofs.Math.Nat.{add-mod_right, add-div_right, two-pow-succ}
 use Rattle.std.proofs.lemmas.Bool.{cases_lt, cases_eq, both_ways}

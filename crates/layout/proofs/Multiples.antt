@@ -11,7 +11,7 @@ a_unit_apart u p q hp hq h = ⊎_elim
     (λ (hi : q / u ≤ p / u). absurd (omega (arith, div-add-mod' p u, div-add-mod' q u, mul-le-mul_right {m = q / u} {n = p / u} u hi)))
     (cases_lt (p / u) (q / u))
 
--- a multiple and a multiple make one
+-- the sum of two multiples is one
 pub sum_of_multiples : (u p q : ℕ) → p % u ≡ 0 → q % u ≡ 0 → (p + q) % u ≡ 0
 sum_of_multiples u p q hp hq = add-mod p q u ∙ ap (λ n. (n + q % u) % u) hp ∙ ap (λ n. (0 + n) % u) hq ∙ zero-mod u
 

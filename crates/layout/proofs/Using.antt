@@ -16,7 +16,7 @@ module _ (shape : Shape) (b : Stretch) (is : IsBlock shape b) where
   slot_there : IsSlot shape b.scale b.level (b.number % slots_at shape.top b.level)
   slot_there = record { scale = is.scale; level = is.level; slot = mod_below b.number (slots_at shape.top b.level) (omega arith) }
 
--- what the slots fill by level and turn, the blocks fill
+-- what the slots fill, counted by scale, level and turn, the blocks' slots fill
 module _ (shape : Shape) (cells : ℕ) (start : ℕ → ℕ → ℕ → ℕ) (each : ℕ → ℕ) (from many : Place → ℕ)
     (starts : (i j s : ℕ) → from (slot_at shape.top i j s) ≡ start i j s) (manys : (i j s : ℕ) → many (slot_at shape.top i j s) ≡ each j) (f : Filled start each shape cells) where
   in_slot : (x : ℕ) (b : Stretch) (is : IsBlock shape b) → HasCell from many x (slot_of b) → InSlot start each shape x b.scale b.level (b.number % slots_at shape.top b.level)
@@ -58,7 +58,7 @@ module _ (shape : Shape) (cells : ℕ) (start : ℕ → ℕ → ℕ → ℕ) (ea
         omega (arith, f.within b.scale b.level s (slot_there shape b is), ap from e, ap many e, starts b.scale b.level s, manys b.scale b.level s);
   }
 
--- so do the rows, and the heads
+-- the rows are filled, and the heads
 pub rows_filled : (shape : Shape) → FillRows shape (shape.scales * scale_rows shape.top)
 rows_filled shape = by_blocks shape _ _ _ (λ s. s.start) (λ s. s.rows) (λ i j s. refl) (λ i j s. refl) (filled (rows_at shape.top) shape (scale_rows shape.top) (rows_of_scale shape.top))
 
