@@ -9,9 +9,9 @@ use Rattle.layout.specs.Inside.{IsShape}
 use Rattle.layout.specs.Blocks.{Stretch, size, first}
 use Rattle.layout.specs.Covers.{fits, scale_of, start_of, end_of, level_at, walk_between, cover_of}
 use Rattle.layout.specs.Laws.{AreEnds, Adjacent, IsBlock, IsWindow, CanAnswer, IsLargest, IsCoverFrom}
-use Rattle.layout.proofs.Few.{few_between}
+use Rattle.layout.proofs.FewBlocks.{few_between}
 use Rattle.layout.proofs.Largest.{IsBest, best, fits_when}
-use Rattle.layout.proofs.Using.{same_turn}
+use Rattle.layout.proofs.SlotsOfBlocks.{same_turn}
 use Rattle.layout.proofs.Multiples.{a_unit_apart, sum_of_multiples, power_of_more}
 use Rattle.layout.proofs.Scales.{scale_right, scale_there}
 use Rattle.layout.proofs.Walks.{taken, after, walk_next, walk_end}

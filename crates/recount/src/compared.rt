@@ -1,5 +1,7 @@
 //! How many values were compared, and how many of them differ.
 
+ghost use Rattle.std.specs.Prelude.{◌≡◌, ◌+◌, ◌-◌, ◌^◌, ◌++◌, min, if◌then◌else◌, Some, codes, decimal};
+
 use std::fmt;
 
 #[derive(Drop)]
@@ -9,7 +11,9 @@ pub(crate) struct Compared {
 }
 
 impl Compared {
-    pub(crate) fn none() -> Compared {
+    pub(crate) fn none() -> Compared
+        ensures { result ≡ record { values = 0; differ = 0 } }
+    {
         Compared {
             values: 0,
             differ: 0,
@@ -17,7 +21,10 @@ impl Compared {
     }
 
     // One more value.
-    pub(crate) fn note(&mut self, same: bool) {
+    pub(crate) fn note(&mut self, same: bool)
+        ensures values { self.new.values ≡ min (self.old.values + 1) (2 ^ 64 - 1) }
+        ensures differ { self.new.differ ≡ (if same then self.old.differ else min (self.old.differ + 1) (2 ^ 64 - 1)) }
+    {
         self.values = self.values.saturating_add(1);
         if !same {
             self.differ = self.differ.saturating_add(1);
@@ -26,6 +33,8 @@ impl Compared {
 }
 
 impl fmt::Display for Compared {
+    ghost output = { λ c. Some (decimal c.values ++ (codes " compared, " ++ (decimal c.differ ++ codes " differ"))) };
+
     fn fmt<W: fmt::Write>(&self, f: &mut fmt::Formatter<W>) -> fmt::Result {
         let Compared { values, differ } = self;
         write!(f, "{values} compared, {differ} differ")

@@ -2,7 +2,7 @@ use Rattle.std.proofs.Common.{◌∙◌, ◌*◌, sym, ap, subst}
 use Rattle.layout.specs.Laws.{FillHeads}
 use Rattle.layout.proofs.Closed.{heads_of_scale}
 use Rattle.layout.proofs.Filling.{heads_end}
-use Rattle.layout.proofs.Using.{heads_filled}
+use Rattle.layout.proofs.SlotsOfBlocks.{heads_filled}
 use Rattle.layout.proofs.layout.Layout.heads.Goals as goal
 
 pub returns-clause-value : goal.returns-clause-value

@@ -2,7 +2,7 @@ use Rattle.std.proofs.Common.{◌∙◌, ◌*◌, sym, ap, subst}
 use Rattle.layout.specs.Laws.{FillRows}
 use Rattle.layout.proofs.Closed.{rows_of_scale}
 use Rattle.layout.proofs.Filling.{rows_end}
-use Rattle.layout.proofs.Using.{rows_filled}
+use Rattle.layout.proofs.SlotsOfBlocks.{rows_filled}
 use Rattle.layout.proofs.layout.Layout.rows.Goals as goal
 
 pub returns-clause-value : goal.returns-clause-value

@@ -1,5 +1,5 @@
 use Rattle.std.proofs.Common.{rules}
-use Rattle.layout.proofs.Falling.{visits_right, visits_all}
+use Rattle.layout.proofs.BlocksOfArrivals.{visits_right, visits_all}
 use Rattle.layout.proofs.layout.Layout.visits.Goals as goal
 
 pub returns-clause-value : goal.returns-clause-value

@@ -1,5 +1,5 @@
 use Rattle.std.proofs.Common.{arith}
-use Rattle.layout.proofs.Small.{heads_small}
+use Rattle.layout.proofs.SmallNumbers.{heads_small}
 use Rattle.layout.proofs.level.Level.first_head.Goals as goal
 
 pub overflow_add-result : goal.overflow_add-result

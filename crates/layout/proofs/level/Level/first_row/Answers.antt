@@ -1,5 +1,5 @@
 use Rattle.std.proofs.Common.{arith}
-use Rattle.layout.proofs.Small.{rows_small}
+use Rattle.layout.proofs.SmallNumbers.{rows_small}
 use Rattle.layout.proofs.level.Level.first_row.Goals as goal
 
 pub overflow_add-result : goal.overflow_add-result
