@@ -1,16 +1,22 @@
--- The entries of a list: one key after another, and why they are right as the list of a window. Assumes nothing, but for the last part, which takes alike to be symmetric and transitive.
-use Rattle.std.proofs.Common.{◌≡◌, ℕ, ◌+◌, ◌-◌, ◌*◌, ◌^◌, ◌<◌, ◌≤◌, Bool, true, false, cond, not, ◌||◌, leb, List, [], ◌∷◌, ◌++◌, map, length, take, Some, None, filter, Option, sym, refl, ap, ◌∙◌, subst, mul-le-mul_left, arith}
+-- The entries of a list: one key after another, place by place, and why they are right as the list of a window. Assumes nothing, but for the last part, which takes alike to be symmetric and transitive.
+use Rattle.std.proofs.Common.{◌≡◌, ℕ, suc, ◌+◌, ◌-◌, ◌*◌, ◌^◌, ◌<◌, ◌≤◌, Bool, true, false, cond, not, ◌||◌, leb, List, [], ◌∷◌, ◌++◌, map, length, Some, None, filter, Option, sym, refl, ap, ◌∙◌, subst, mul-le-mul_left, arith, length-append}
 use Rattle.std.proofs.lemmas.List.Elements.{filter-append, All-nil, All-cons, All-head, All-tail, All-filter, All-map, All-weaker, filter_passes}
 use Rattle.std.proofs.lemmas.List.{append-nil, map-append, length_push, append_assoc}
 use Rattle.std.proofs.lemmas.List.Sums.{sum_by-cons, count_by-le-length}
 use Rattle.std.proofs.lemmas.Bool.{both_ways, cond_both, not-true, or_left, or_right, le-leb, leb-true}
-use Rattle.std.specs.List.{All, cons_option, enumerate_from, filter_map}
+use Rattle.std.specs.List.{All, cons_option, filter_map, range_with_len, slice_get}
+use Rattle.std.specs.Option.{option_and_then}
 use Rattle.std.proofs.Math.Seq.{take-append_seam}
 use Rattle.likeness.specs.Counts.{Stands, true_count}
 use Rattle.likeness.proofs.Counting.{true_count_same}
 use Rattle.keeper.specs.declared.entry.Entry.{Entry}
-use Rattle.keeper.specs.Listing.{Apart, among, firsts, listed, named_after, entry_of, bracket_in}
+use Rattle.keeper.specs.Listing.{Apart, among, entries_from, firsts, listed, named_after, named_at, entry_of, bracket_in}
 use Rattle.keeper.specs.Rules.{Bracket, Lists}
+
+-- the element behind `before`
+slice_get_seam : {X : Type 0} (before : List X) (x : X) (rest : List X) → slice_get (before ++ x ∷ rest) (length before) ≡ Some x
+slice_get_seam [] x rest = refl
+slice_get_seam (y ∷ before) x rest = slice_get_seam before x rest
 
 module _ {K : Type 0} (alike : K → K → Bool) where
   first_more : (test : K → Bool) (x k : K) (ys : List K) (a b : Bool) → test k ≡ not a
@@ -85,28 +91,36 @@ module _ {K : Type 0} (alike : K → K → Bool) where
         ways false false e =
             ap (map entry) (filter-append high (firsts alike xs) (k ∷ []) ∙ ap (λ t. filter high (firsts alike xs) ++ cond t (k ∷ []) []) e ∙ append-nil (filter high (firsts alike xs)))
 
-    -- what each place adds, behind the keys before it
-    adds : List K → ℕ × K → Option (Entry K)
-    adds keys p = named_after alike bracket threshold (take p.0 keys) p.1
+    -- what the key at a place adds stands before what the others add
+    pub entries_more : (keys : List K) (place : ℕ) → place < length keys
+        → entries_from alike bracket threshold keys place ≡ cons_option (named_at alike bracket threshold keys place) (entries_from alike bracket threshold keys (place + 1))
+    entries_more keys place within =
+        let one : length keys - place ≡ suc (length keys - (place + 1)) = omega arith in
+        ap (λ n. filter_map (named_at alike bracket threshold keys) (range_with_len place n)) one
 
-    listed_rest : (keys before rest : List K) → before ++ rest ≡ keys
-        → listed alike bracket threshold before ++ filter_map (adds keys) (enumerate_from (length before) rest) ≡ listed alike bracket threshold keys
-    unfolding adds
-    listed_rest keys before [] whole = append-nil _ ∙ ap (listed alike bracket threshold) (sym (append-nil before) ∙ whole)
-    listed_rest keys before (k ∷ rest) whole =
-        let here : take (length before) keys ≡ before = ap (take (length before)) (sym whole) ∙ take-append_seam before (k ∷ rest) in
+    named_here : (before : List K) (k : K) (rest : List K) → named_at alike bracket threshold (before ++ k ∷ rest) (length before) ≡ named_after alike bracket threshold before k
+    named_here before k rest = λ i. option_and_then (named_after alike bracket threshold (take-append_seam before (k ∷ rest) i)) (slice_get_seam before k rest i)
+
+    entries_rest : (keys before rest : List K) → before ++ rest ≡ keys → listed alike bracket threshold before ++ entries_from alike bracket threshold keys (length before) ≡ listed alike bracket threshold keys
+    entries_rest keys before [] whole =
+        let same : before ≡ keys = sym (append-nil before) ∙ whole in
+        let none : length keys - length before ≡ 0 = omega (arith, ap length same) in
+        ap (λ n. listed alike bracket threshold before ++ filter_map (named_at alike bracket threshold keys) (range_with_len (length before) n)) none
+        ∙ append-nil _
+        ∙ ap (listed alike bracket threshold) same
+    entries_rest keys before (k ∷ rest) whole =
+        let here : named_at alike bracket threshold keys (length before) ≡ named_after alike bracket threshold before k =
+        ap (λ ks. named_at alike bracket threshold ks (length before)) (sym whole) ∙ named_here before k rest in
         let long : length before + 1 ≡ length (before ++ k ∷ []) = sym (length_push before k) in
-        let more = listed_rest keys (before ++ k ∷ []) rest (append_assoc before (k ∷ []) rest ∙ whole) in
-        ap (λ b. listed alike bracket threshold before ++ cons_option (named_after alike bracket threshold b k) (filter_map (adds keys) (enumerate_from (length before + 1) rest))) here
-        ∙ ap (λ n. listed alike bracket threshold before ++ cons_option (named_after alike bracket threshold before k) (filter_map (adds keys) (enumerate_from n rest))) long
+        let within : length before < length keys = omega (arith, ap length whole, length-append before (k ∷ rest)) in
+        ap (λ es. listed alike bracket threshold before ++ es) (entries_more keys (length before) within ∙ (λ i. cons_option (here i) (entries_from alike bracket threshold keys (long i))))
         ∙ extended_front (listed alike bracket threshold before) (named_after alike bracket threshold before k) _
-        ∙ ap (λ es. es ++ filter_map (adds keys) (enumerate_from (length (before ++ k ∷ [])) rest)) (sym (listed_push before k))
-        ∙ more
+        ∙ ap (λ es. es ++ entries_from alike bracket threshold keys (length (before ++ k ∷ []))) (sym (listed_push before k))
+        ∙ entries_rest keys (before ++ k ∷ []) rest (append_assoc before (k ∷ []) rest ∙ whole)
 
-    -- a list, place by place
-    pub listed_places : (keys : List K) → filter_map (λ p. named_after alike bracket threshold (take p.0 keys) p.1) (enumerate_from 0 keys) ≡ listed alike bracket threshold keys
-    unfolding adds
-    listed_places keys = listed_rest keys [] keys refl
+    -- all places together give the list
+    pub entries_all : (keys : List K) → entries_from alike bracket threshold keys 0 ≡ listed alike bracket threshold keys
+    entries_all keys = entries_rest keys [] keys refl
 
     -- each entry has its key's bracket
     pub listed_counts : (xs : List K) → All (λ e. bracket_in e ≡ bracket e.key) (listed alike bracket threshold xs)

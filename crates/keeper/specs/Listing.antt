@@ -1,6 +1,7 @@
 -- The entries of a list, from keys in some order and a bracket for each key. Assumes nothing.
-use Rattle.std.specs.Prelude.{◌≡◌, ℕ, Bool, false, if◌then◌else◌, not, List, [], ◌∷◌, map, Some, None, filter, Option, nat_le, All}
-use Rattle.std.specs.List.{list_any}
+use Rattle.std.specs.Prelude.{◌≡◌, ℕ, ◌-◌, Bool, false, if◌then◌else◌, not, List, [], ◌∷◌, map, length, Some, None, filter, Option, nat_le, take, All}
+use Rattle.std.specs.Option.{option_and_then}
+use Rattle.std.specs.List.{filter_map, list_any, range_with_len, slice_get}
 use Rattle.keeper.specs.declared.entry.Entry.{Entry}
 
 -- the entry of a key with its bracket
@@ -36,3 +37,11 @@ module _ {K : Type 0} (alike : K → K → Bool) where
       if among before k then None
       else if nat_le threshold (bracket k).1 then Some (entry_of k (bracket k))
       else None
+
+  -- the entry that the key at a place adds
+  abbrev pub named_at : (K → ℕ × ℕ) → ℕ → List K → ℕ → Option (Entry K)
+  named_at bracket threshold keys place = option_and_then (named_after bracket threshold (take place keys)) (slice_get keys place)
+
+  -- the entries that the keys from a place on add
+  abbrev pub entries_from : (K → ℕ × ℕ) → ℕ → List K → ℕ → List (Entry K)
+  entries_from bracket threshold keys place = filter_map (named_at bracket threshold keys) (range_with_len place (length keys - place))

@@ -46,5 +46,9 @@ question_answer need lent f threshold rest =
     else rest
 
 -- `room` entries can be written, and `named` are to be
+abbrev pub room_answer : ℕ → ℕ → Result ℕ Refusal
+room_answer room named = if nat_lt room named then Err ShortList else Ok named
+
+-- the same of a list at a threshold, with these tables
 abbrev pub list_answer : Lengths → Lengths → Figures → ℕ → ℕ → ℕ → Result ℕ Refusal
-list_answer need lent f threshold room named = question_answer need lent f threshold (if nat_lt room named then Err ShortList else Ok named)
+list_answer need lent f threshold room named = question_answer need lent f threshold (room_answer room named)

@@ -1,6 +1,5 @@
 pub mod Backwards
 pub mod Exact
-pub mod Listing
 pub mod Moves
 pub mod Pieces
 pub mod Rounds

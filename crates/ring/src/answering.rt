@@ -6,13 +6,13 @@ ghost use Rattle.keeper.specs.Figures.{grown, shrunk};
 ghost use Rattle.keeper.specs.Refusals.{count_answer, drop_answer, list_answer, put_answer};
 ghost use Rattle.keeper.specs.Tables.{lengths};
 ghost use Rattle.tally.specs.Slots.{over};
-ghost use Rattle.ring.specs.Entries.{left};
 ghost use Rattle.ring.specs.Rings.{exactly, listing_of, need_of, stored, window_of};
 
-use crate::entries::Entries;
 use crate::figures::Ring;
 use crate::window::Window;
-use keeper::{Entry, Lengths, Refusal, admit_drop, admit_list, admit_put, admit_tables};
+use keeper::{
+    Entry, Lengths, Refusal, Source, admit_drop, admit_list, admit_put, admit_tables, list_from,
+};
 use likeness::Likeness;
 use tally::{Head, Row};
 
@@ -92,8 +92,7 @@ impl Ring {
             (exactly K.alike (window_of self.now rows.now) key.now) }
     {
         admit_tables(self, Lengths::of(rows, heads))?;
-        let count = self.window(rows).count_alike(key);
-        Ok((count, count))
+        Ok(self.window(rows).bracket_of(key))
     }
 
     // The answer of a list, and its entries.
@@ -110,22 +109,6 @@ impl Ring {
         ensures kept { is_ok result ≡ false → list.new ≡ list.old }
     {
         admit_list(self, Lengths::of(rows, heads), threshold)?;
-        let window = self.window(rows);
-        let named = window.entries(threshold).count();
-        if list.len() < named {
-            return Err(Refusal::ShortList);
-        }
-        write(window.entries(threshold), list);
-        Ok(named)
-    }
-}
-
-// Writes the entries over the front of the list.
-fn write<K: Likeness>(entries: Entries<'_, '_, K>, list: &mut [Entry<K>])
-    requires { length (left K.alike entries) ≤ length list.old }
-    ensures { list.new ≡ over (left K.alike entries.entry) list.old }
-{
-    for (at, entry) in entries.enumerate() {
-        list[at] = entry;
+        list_from(&self.window(rows), threshold, list)
     }
 }

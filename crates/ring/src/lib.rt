@@ -2,7 +2,6 @@
 #![tactic(auto)]
 
 mod answering;
-mod entries;
 mod figures;
 mod keeping;
 mod window;

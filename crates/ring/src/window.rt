@@ -1,14 +1,13 @@
 //! A window as it lies in the rows.
 
-ghost use Rattle.std.specs.Prelude.{◌≡◌, take};
+ghost use Rattle.std.specs.Prelude.{◌≡◌, map, take};
+ghost use Rattle.std.specs.List.{slice_get};
 ghost use Rattle.std.specs.Iterator.{YieldsFirst, YieldsLast, item_count};
-ghost use Rattle.keeper.specs.Listing.{among, named_after};
+ghost use Rattle.keeper.specs.Listing.{among};
 ghost use Rattle.likeness.specs.Counts.{true_count};
-ghost use Rattle.ring.specs.Entries.{left};
-ghost use Rattle.ring.specs.Rings.{exactly, listing_of};
+ghost use Rattle.ring.specs.Rings.{exactly};
 
-use crate::entries::Entries;
-use keeper::Entry;
+use keeper::Source;
 use likeness::Likeness;
 use std::marker::Model;
 use tally::Row;
@@ -67,7 +66,7 @@ impl<'a, K: Likeness> DoubleEndedIterator for Window<'a, K> {
 
 impl<'a, K: Likeness> Window<'a, K> {
     // Its keys, oldest first, to be gone through: a window of its own, made by hand since a `clone` may fail.
-    pub(crate) fn keys(&self) -> Window<'a, K>
+    fn keys(&self) -> Window<'a, K>
         ensures { result ≡ self.now }
     {
         Window {
@@ -78,7 +77,7 @@ impl<'a, K: Likeness> Window<'a, K> {
 
     // How many keys are alike to this one. The library's `true_count` takes a slice; one function over any iterator would ask its
     // caller that the iterator ends, and no public function asks anything.
-    pub(crate) fn count_alike(&self, key: &K) -> u32
+    fn count_alike(&self, key: &K) -> u32
         ensures { result ≡ true_count K.alike self.now key.now }
     {
         self.keys().filter(|other| other.is_alike(key)).count() as u32
@@ -103,30 +102,38 @@ impl<'a, K: Likeness> Window<'a, K> {
     {
         self.keys().rev().any(|other| other.is_alike(key))
     }
+}
 
-    // The entry for the key at a place, if that is its first place and it counts enough.
-    pub(crate) fn entry(&self, place: usize, key: K, threshold: u32) -> Option<Entry<K>>
-        ensures { result ≡ named_after K.alike (exactly K.alike self.now) threshold (take place self.now) key }
-    {
-        if self.first(place).holds(&key) {
-            return None;
-        }
-        let count = self.count_alike(&key);
-        (threshold <= count).then_some(Entry {
-            key,
-            floor: count,
-            ceiling: count,
-        })
+impl<'a, K: Likeness> Source<K> for Window<'a, K> {
+    ghost keys = { λ w. w };
+
+    ghost bracket = { exactly K.Likeness.alike };
+
+    fn len(&self) -> usize {
+        self.older.len() + self.newer.len()
     }
 
-    // The entries of a list at the threshold, in order.
-    pub(crate) fn entries(&self, threshold: u32) -> Entries<'_, 'a, K>
-        ensures { left K.alike result ≡ listing_of K.alike self.now threshold }
-    {
-        Entries {
-            window: self,
-            keys: self.keys().enumerate(),
-            threshold,
+    #[tactic(auto, using(crate::proofs::Pieces::get_newer, crate::proofs::Pieces::get_older))]
+    fn key(&self, place: usize) -> Option<K> {
+        if place < self.older.len() {
+            return key_at(self.older, place);
         }
+        key_at(self.newer, place - self.older.len())
     }
+
+    fn is_known_before(&self, place: usize, key: &K) -> bool {
+        self.first(place).holds(key)
+    }
+
+    fn bracket_of(&self, key: &K) -> (u32, u32) {
+        let count = self.count_alike(key);
+        (count, count)
+    }
+}
+
+// The key in one of the rows.
+fn key_at<K: Copy>(rows: &[Row<K>], place: usize) -> Option<K>
+    ensures { result ≡ slice_get (map (λ row. row.key) rows.now) place }
+{
+    rows.get(place).map(|row| row.key)
 }
