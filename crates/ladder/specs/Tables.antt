@@ -1,0 +1,62 @@
+-- What lies in a ladder's two tables, slot by slot, whatever they hold. Assumes nothing.
+use Rattle.std.specs.Prelude.{ℕ, ◌+◌, ◌*◌, ◌<◌, ◌≤◌, Bool, if◌then◌else◌, List, ◌++◌, length, take, drop, get_or, fold, slice_set, ◌==◌}
+use Rattle.tally.specs.declared.rows.Head.{Head}
+use Rattle.tally.specs.declared.rows.Row.{Row}
+use Rattle.tally.specs.Slots.{held, head_of, over, stepped}
+use Rattle.tally.specs.Steps.{Summary}
+use Rattle.layout.specs.declared.place.Place.{Place}
+use Rattle.layout.specs.Slots.{Shape, scale_heads, scale_rows}
+use Rattle.layout.specs.Blocks.{Stretch, first, slot_of, visits_of}
+
+-- the row table and the head table
+pub record Tables (K : Type 0) : Type 0 where
+  pub rows : List (Row K)
+  pub heads : List Head
+
+-- no rows in use, and nothing lost
+abbrev pub empty_head : Head
+empty_head = record { used = 0; lost = 0 }
+
+-- the elements of a slot in a table, and the table with others in their place
+abbrev pub part : {X : Type 0} → Place → List X → List X
+part place xs = take place.rows (drop place.start xs)
+
+abbrev pub with_part : {X : Type 0} → Place → List X → List X → List X
+with_part place ys xs = take place.start xs ++ (ys ++ drop place.rows (drop place.start xs))
+
+-- a slot lies in the tables
+pub record Lies {K : Type 0} (place : Place) (rows : List (Row K)) (heads : List Head) : Type 0 where
+  pub rows_there : place.start + place.rows ≤ length rows
+  pub head_there : place.head < length heads
+
+-- all slots do
+pub record HasRoom {K : Type 0} (shape : Shape) (rows : List (Row K)) (heads : List Head) : Type 0 where
+  pub enough_rows : shape.scales * scale_rows shape.top ≤ length rows
+  pub enough_heads : shape.scales * scale_heads shape.top ≤ length heads
+
+module _ {K : Type 0} where
+  abbrev pub tables : List (Row K) → List Head → Tables K
+  tables rows heads = record { rows = rows; heads = heads }
+
+  -- the head of a block's slot, and the tally there
+  abbrev pub head_at : Tables K → Stretch → Head
+  head_at t b = get_or t.heads (slot_of b).head empty_head
+
+  abbrev pub tally_at : Tables K → Stretch → Summary K
+  tally_at t b = held (part (slot_of b) t.rows) (head_at t b)
+
+  module _ (alike : K → K → Bool) (m : ℕ) (key : K) where
+    -- the tally of a block's slot after arrival m, which was this key; where it is the block's first, the slot is emptied before
+    abbrev pub counted_at : Tables K → Stretch → Summary K
+    counted_at t b = stepped alike (part (slot_of b) t.rows) (if first b == m then empty_head else head_at t b) key
+
+    -- the tables with that tally in the slot
+    unfoldable pub visited : Tables K → Stretch → Tables K
+    visited t b = record {
+      rows = with_part (slot_of b) (over (counted_at t b).rows (part (slot_of b) t.rows)) t.rows;
+      heads = slice_set t.heads (slot_of b).head (head_of (counted_at t b));
+    }
+
+    -- the tables after arrival m, which was this key, was counted at every level of every scale
+    abbrev pub put_tables : Shape → Tables K → Tables K
+    put_tables shape t = fold visited t (visits_of shape m)

@@ -1,0 +1,9 @@
+//! The ladder: the keeper that stores no key for long, but tallies of blocks of arrivals at every scale.
+#![tactic(auto)]
+
+mod figures;
+mod keeping;
+mod putting;
+mod sketch;
+
+pub use figures::Ladder;
