@@ -10,3 +10,6 @@ not_unfit f threshold e = grind (arith, nat_tests)
 
 pub put_admitted : (need lent : Lengths) (f : Figures) → is_ok (put_answer need lent f) ≡ true → (need.rows ≤ lent.rows) × (f.size < 2 ^ f.span)
 put_admitted need lent f e = (grind (arith, nat_tests), grind (arith, nat_tests))
+
+pub room_admitted : (need lent : Lengths) (f : Figures) → is_ok (put_answer need lent f) ≡ true → (need.rows ≤ lent.rows) × (need.heads ≤ lent.heads)
+room_admitted need lent f e = (grind (arith, nat_tests), grind (arith, nat_tests))

@@ -1,3 +1,9 @@
 pub mod Adding
+pub mod Covering
+pub mod Moves
+pub mod Naming
+pub mod Newest
+pub mod Parts
 pub mod Rooms
 pub mod Visiting
+pub mod Visits

@@ -1,3 +1,5 @@
 pub mod Inside
+pub mod Ladders
 pub mod Sums
 pub mod Tables
+pub mod Truth

@@ -1,5 +1,5 @@
 -- What lies in a ladder's two tables, slot by slot, whatever they hold. Assumes nothing.
-use Rattle.std.specs.Prelude.{ℕ, ◌+◌, ◌*◌, ◌<◌, ◌≤◌, Bool, if◌then◌else◌, List, ◌++◌, length, take, drop, get_or, fold, slice_set, ◌==◌}
+use Rattle.std.specs.Prelude.{◌≡◌, ℕ, ◌+◌, ◌*◌, ◌<◌, ◌≤◌, Bool, if◌then◌else◌, List, ◌++◌, length, take, drop, get_or, fold, slice_set, ◌==◌}
 use Rattle.tally.specs.declared.rows.Head.{Head}
 use Rattle.tally.specs.declared.rows.Row.{Row}
 use Rattle.tally.specs.Slots.{held, head_of, over, stepped}
@@ -7,6 +7,7 @@ use Rattle.tally.specs.Steps.{Summary}
 use Rattle.layout.specs.declared.place.Place.{Place}
 use Rattle.layout.specs.Slots.{Shape, scale_heads, scale_rows}
 use Rattle.layout.specs.Blocks.{Stretch, first, slot_of, visits_of}
+use Rattle.layout.specs.Laws.{IsBlock, IsVisit}
 
 -- the row table and the head table
 pub record Tables (K : Type 0) : Type 0 where
@@ -38,25 +39,37 @@ module _ {K : Type 0} where
   abbrev pub tables : List (Row K) → List Head → Tables K
   tables rows heads = record { rows = rows; heads = heads }
 
-  -- the head of a block's slot, and the tally there
+  -- the rows and the head of a block's slot, and the tally there
+  abbrev pub rows_of : Tables K → Stretch → List (Row K)
+  rows_of t b = part (slot_of b) t.rows
+
   abbrev pub head_at : Tables K → Stretch → Head
   head_at t b = get_or t.heads (slot_of b).head empty_head
 
   abbrev pub tally_at : Tables K → Stretch → Summary K
-  tally_at t b = held (part (slot_of b) t.rows) (head_at t b)
+  tally_at t b = held (rows_of t b) (head_at t b)
 
   module _ (alike : K → K → Bool) (m : ℕ) (key : K) where
     -- the tally of a block's slot after arrival m, which was this key; where it is the block's first, the slot is emptied before
     abbrev pub counted_at : Tables K → Stretch → Summary K
-    counted_at t b = stepped alike (part (slot_of b) t.rows) (if first b == m then empty_head else head_at t b) key
+    counted_at t b = stepped alike (rows_of t b) (if first b == m then empty_head else head_at t b) key
 
-    -- the tables with that tally in the slot
+    -- the slot's rows with that tally in them
+    abbrev pub rows_after : Tables K → Stretch → List (Row K)
+    rows_after t b = over (counted_at t b).rows (rows_of t b)
+
+    -- the tables with that slot
     unfoldable pub visited : Tables K → Stretch → Tables K
     visited t b = record {
-      rows = with_part (slot_of b) (over (counted_at t b).rows (part (slot_of b) t.rows)) t.rows;
+      rows = with_part (slot_of b) (rows_after t b) t.rows;
       heads = slice_set t.heads (slot_of b).head (head_of (counted_at t b));
     }
 
     -- the tables after arrival m, which was this key, was counted at every level of every scale
     abbrev pub put_tables : Shape → Tables K → Tables K
     put_tables shape t = fold visited t (visits_of shape m)
+
+    -- the blocks that the arrival falls into take their steps, and every slot that none of them uses stays as it was
+    pub record TakesSteps (shape : Shape) (t t' : Tables K) : Type 0 where
+      pub steps : (b : Stretch) → IsVisit shape m b → (rows_of t' b ≡ rows_after t b) × (head_at t' b ≡ head_of (counted_at t b))
+      pub stays : (b : Stretch) → IsBlock shape b → ((c : Stretch) → IsVisit shape m c → slot_of c ≡ slot_of b → ⊥) → (rows_of t' b ≡ rows_of t b) × (head_at t' b ≡ head_at t b)

@@ -1,5 +1,6 @@
 //! The ladder's own numbers.
 
+use layout::Layout;
 use settings::Setting;
 use std::marker::Model;
 
@@ -9,6 +10,8 @@ use std::marker::Model;
 #[derive(Debug, Drop)]
 pub struct Ladder {
     pub(crate) setting: Setting,
+    // where the tallies lie; it follows from the setting
+    pub(crate) layout: Layout,
     pub(crate) puts: u32,
     pub(crate) size: u32,
 }

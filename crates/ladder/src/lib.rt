@@ -1,6 +1,7 @@
 //! The ladder: the keeper that stores no key for long, but tallies of blocks of arrivals at every scale.
 #![tactic(auto)]
 
+mod answering;
 mod figures;
 mod keeping;
 mod putting;

@@ -45,12 +45,16 @@ module _ (shape : Shape) (m : ℕ) where
       (λ (ne : h ≡ i → ⊥). Contains-append_right (blocks_from shape.top m h 0 (shape.top + 1)) (scales_from shape.top m (h + 1) n) (block_of shape.top m i j) (in_scales n (h + 1) i j (omega arith) (omega arith) level))
       (cases_eq h i)
 
-  pub visits_all : (b : Stretch) → IsVisit shape m b → Contains (visits_of shape m) b
-  visits_all b v =
+  -- a block that m falls into is the one of its level
+  pub one_of_level : (b : Stretch) → IsVisit shape m b → block_of shape.top m b.scale b.level ≡ b
+  one_of_level b v =
       let u = block_size b.scale b.level in
       let number : m / u ≡ b.number = div-eq_of_lt-le u v.from (omega (arith, v.below, add-mul b.number 1 u, one-mul u)) in
-      let same : block_of shape.top m b.scale b.level ≡ b = λ t. record { top = sym v.there.top t; scale = b.scale; level = b.level; number = number t } in
-      subst (Contains (visits_of shape m)) same (in_scales shape.scales 0 b.scale b.level (omega arith) (omega (arith, v.there.scale)) v.there.level)
+      λ t. record { top = sym v.there.top t; scale = b.scale; level = b.level; number = number t }
+
+  pub visits_all : (b : Stretch) → IsVisit shape m b → Contains (visits_of shape m) b
+  visits_all b v =
+      subst (Contains (visits_of shape m)) (one_of_level b v) (in_scales shape.scales 0 b.scale b.level (omega arith) (omega (arith, v.there.scale)) v.there.level)
 
   pub visits_right : All (IsVisit shape m) (visits_of shape m)
   visits_right = scales_there shape.scales 0 (omega arith)

@@ -1,9 +1,9 @@
 -- The laws of a cover, whose scale and ends the code has found. Assumes nothing.
-use Rattle.std.proofs.Common.{◌≡◌, ℕ, ◌-◌, sum_by, ap, ◌∙◌, subst, arith}
+use Rattle.std.proofs.Common.{◌≡◌, ℕ, ◌-◌, sum_by, refl, ap, ◌∙◌, subst, arith}
 use Rattle.layout.specs.Slots.{Shape}
 use Rattle.layout.specs.Inside.{IsShape}
 use Rattle.layout.specs.Blocks.{size}
-use Rattle.layout.specs.Covers.{scale_of, start_of, end_of, walk_between, ignored_of}
+use Rattle.layout.specs.Covers.{cover_of, scale_of, start_of, end_of, walk_between, ignored_of}
 use Rattle.layout.specs.Laws.{AreEnds, IsWindow, IsCoverFrom, IsCover, IsNear}
 use Rattle.layout.proofs.Answering.{arrivals_covered, cover_found, of_one_scale, cover_between}
 use Rattle.layout.proofs.Edges.{are_ends}
@@ -28,3 +28,11 @@ module _ (shape : Shape) (m n i p q : ℕ) (is : IsShape shape.top shape.scales)
   pub cover_near : IsWindow shape m n → IsNear shape n (walk_between shape.top i p q) (n - (q - p))
   cover_near window = is_near shape m n i p q (omega (arith, is.lowest)) scale window.come ends (n - (q - p)) (walk_between shape.top i p q) (arrivals_covered shape m n i p q ends)
       (between window).few (between window).whole (of_one_scale shape.top i q ends.end (q - p) p (omega (arith, ends.ordered)) ends.start)
+
+-- the cover of a window keeps the laws
+module _ (shape : Shape) (m n : ℕ) (is : IsShape shape.top shape.scales) (window : IsWindow shape m n) where
+  pub cover_is : IsCover shape m n (cover_of shape m n) (ignored_of shape m n)
+  cover_is = subst (IsCover shape m n (cover_of shape m n)) (cover_left shape m n _ _ _ is refl refl refl) (cover_right shape m n _ _ _ is refl refl refl window)
+
+  pub cover_is_near : IsNear shape n (cover_of shape m n) (ignored_of shape m n)
+  cover_is_near = subst (IsNear shape n (cover_of shape m n)) (cover_left shape m n _ _ _ is refl refl refl) (cover_near shape m n _ _ _ is refl refl refl window)

@@ -1,10 +1,10 @@
 -- No cell of the layout has a large number. Assumes nothing.
 use Rattle.std.proofs.Common.{ℕ, ◌+◌, ◌-◌, ◌*◌, ◌^◌, ◌<◌, ◌≤◌, arith}
 use Rattle.std.proofs.lemmas.Nat.{mul-le}
-use Rattle.layout.specs.Inside.{IsLevel}
+use Rattle.layout.specs.Inside.{IsLevel, IsShape}
 use Rattle.layout.specs.Slots.{slots_at, rows_at, rows_below, heads_below, scale_rows, scale_heads}
 use Rattle.layout.proofs.Closed.{pow_mono, rows_closed, rows_of_scale, heads_of_scale}
-use Rattle.layout.proofs.Filling.{level_by}
+use Rattle.layout.proofs.Filling.{level_by, rows_end}
 
 few_rows : (top : ℕ) → top ≤ 9 → scale_rows top < 2 ^ 16
 few_rows top h =
@@ -21,3 +21,8 @@ rows_small top i j h = omega (arith, few_rows top h.highest, level_by (rows_at t
 
 pub heads_small : (top i j : ℕ) → IsLevel top i j → i * scale_heads top + heads_below top j + slots_at top j < 2 ^ 16
 heads_small top i j h = omega (arith, few_heads top h.highest, level_by (λ k. 1) top (scale_heads top) (heads_of_scale top) 17 i j (omega (arith, h.lowest, h.scale)) h.level)
+
+-- all slots together
+pub shape_small : (top scales : ℕ) → IsShape top scales → scales * scale_rows top < 2 ^ 21
+shape_small top scales is =
+    omega (arith, rows_end top scales is.some, rows_small top (scales - 1) top (record { lowest = is.lowest; highest = is.highest; scale = omega (arith, is.some, is.few); level = omega arith }))

@@ -53,7 +53,8 @@ struct Edges {
 impl Layout {
     /// The layout of a setting.
     pub fn of(setting: Setting) -> Layout
-        ensures { result ≡ shape_of setting.accuracy setting.span }
+        ensures value { result ≡ shape_of setting.accuracy setting.span }
+        ensures range { IsShape result.top result.scales }
     {
         let top = setting.accuracy() + 3;
         Layout {

@@ -1,0 +1,32 @@
+-- When tables are true to what came: each slot holds the tally of its newest block. Assumes nothing.
+use Rattle.std.specs.Prelude.{◌≡◌, ℕ, ◌<◌, ◌≤◌, Bool, List, ◌++◌, length, take, drop}
+use Rattle.keeper.specs.Figures.{Figures}
+use Rattle.tally.specs.declared.rows.Head.{Head}
+use Rattle.tally.specs.declared.rows.Row.{Row}
+use Rattle.tally.specs.Steps.{Summary, run}
+use Rattle.layout.specs.Slots.{Shape, rows_at, shape_of}
+use Rattle.layout.specs.Blocks.{Stretch, first, size, slot_of}
+use Rattle.layout.specs.Laws.{IsBlock}
+use Rattle.ladder.specs.Tables.{Tables, tables, tally_at}
+
+-- the keys of a block among all arrivals, as far as they have come
+abbrev pub keys_of : {K : Type 0} → List K → Stretch → List K
+keys_of arrivals b = take (size b) (drop (first b) arrivals)
+
+-- their Misra-Gries tally, in as many rows as the block's slot has
+abbrev pub tally_of : {K : Type 0} → (K → K → Bool) → List K → Stretch → Summary K
+tally_of alike arrivals b = run alike (rows_at b.top b.level) (keys_of arrivals b)
+
+-- a block has begun, and none that uses its slot began later
+pub record IsNewest (shape : Shape) (m : ℕ) (b : Stretch) : Type 0 where
+  pub there : IsBlock shape b
+  pub begun : first b < m
+  pub newest : (c : Stretch) → IsBlock shape c → slot_of c ≡ slot_of b → first c < m → first c ≤ first b
+
+-- each slot that a block has begun holds exactly the tally of its newest block: the rows in their order, the counts, how many they are, and what was lost
+abbrev pub HoldsTallies : {K : Type 0} → (K → K → Bool) → Shape → Tables K → List K → Type 0
+HoldsTallies alike shape t arrivals = (b : Stretch) → IsNewest shape (length arrivals) b → tally_at t b ≡ tally_of alike arrivals b
+
+-- the tables of a ladder are true to a window, after a past
+abbrev pub HoldsWindow : {K : Type 0} → (K → K → Bool) → Figures → List (Row K) → List Head → List K → List K → Type 0
+HoldsWindow alike f rows heads past window = HoldsTallies alike (shape_of f.accuracy f.span) (tables rows heads) (past ++ window)

@@ -1,0 +1,90 @@
+//! What the ladder does at each call. These stand apart from the trait's methods, so that what a keeper owes of its answers
+//! is owed at one return.
+
+ghost use Rattle.std.specs.Prelude.{◌≡◌, ◌^◌, ◌<◌, is_ok, if◌then◌else◌};
+ghost use Rattle.keeper.specs.Figures.{grown, shrunk};
+ghost use Rattle.keeper.specs.Refusals.{count_answer, drop_answer, put_answer};
+ghost use Rattle.keeper.specs.Tables.{lengths};
+ghost use Rattle.ladder.specs.Ladders.{bracket, need_of, shape_at, stored};
+ghost use Rattle.ladder.specs.Tables.{HasRoom, tables};
+
+use crate::figures::Ladder;
+use crate::putting::visit_all;
+use crate::sketch::Sketch;
+use keeper::{Lengths, Refusal, admit_drop, admit_put, admit_tables};
+use likeness::Likeness;
+use tally::{Head, Row};
+
+impl Ladder {
+    // How many rows and heads the slots take.
+    pub(crate) fn need(&self) -> Lengths
+        ensures value { result ≡ need_of self.now.accuracy self.now.span }
+        ensures few_rows { result.rows < 2 ^ 21 }
+        ensures few_heads { result.heads < 2 ^ 16 }
+    {
+        Lengths {
+            rows: self.layout.rows(),
+            heads: self.layout.heads(),
+        }
+    }
+
+    // The window, in tables that are long enough.
+    fn sketch<'a, K: Likeness>(&self, rows: &'a [Row<K>], heads: &'a [Head]) -> Sketch<'a, K>
+        requires { HasRoom (shape_at self.now) rows.now heads.now }
+        ensures rows { result.rows.now ≡ rows.now }
+        ensures heads { result.heads.now ≡ heads.now }
+        ensures layout { result.layout ≡ shape_at self.now }
+        ensures arrivals { result.arrivals ≡ self.now.puts }
+        ensures size { result.size ≡ self.now.size }
+    {
+        Sketch {
+            rows,
+            heads,
+            layout: self.layout,
+            arrivals: self.puts,
+            size: self.size,
+        }
+    }
+
+    // A key is counted in each block of its arrival.
+    pub(crate) fn store<K: Likeness>(
+        &mut self,
+        rows: &mut [Row<K>],
+        heads: &mut [Head],
+        key: K,
+    ) -> Result<(), Refusal>
+        ensures answer { result ≡ put_answer (need_of self.old.accuracy self.old.span) (lengths rows.old heads.old) self.old }
+        ensures tells { self.new ≡ (if is_ok result then grown self.old else self.old) }
+        ensures tables { tables rows.new heads.new ≡ (if is_ok result then stored K.alike self.old rows.old heads.old key else tables rows.old heads.old) }
+    {
+        admit_put(self, Lengths::of(rows, heads))?;
+        visit_all(rows, heads, &self.layout, self.puts, key);
+        self.puts += 1;
+        self.size += 1;
+        Ok(())
+    }
+
+    // The oldest key is no longer the window's. No tally changes.
+    pub(crate) fn forget(&mut self) -> Result<(), Refusal>
+        ensures answer { result ≡ drop_answer self.old }
+        ensures tells { self.new ≡ (if is_ok result then shrunk self.old else self.old) }
+    {
+        admit_drop(self)?;
+        self.size -= 1;
+        Ok(())
+    }
+
+    // The answer of a count.
+    pub(crate) fn answer_count<K: Likeness>(
+        &self,
+        rows: &[Row<K>],
+        heads: &[Head],
+        key: &K,
+    ) -> Result<(u32, u32), Refusal>
+        ensures { result ≡ count_answer (need_of self.now.accuracy self.now.span) (lengths rows.now heads.now)
+            (bracket K.alike self.now rows.now heads.now key.now) }
+    {
+        admit_tables(self, Lengths::of(rows, heads))?;
+        Ok(self.sketch(rows, heads).bracket(key))
+    }
+}
