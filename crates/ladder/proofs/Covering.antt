@@ -82,6 +82,14 @@ module _ {K : Type 0} (alike : K → K → Bool) (arrivals : List K) (k : K) whe
     pub all_lose_little : (bs : List Stretch) → All (λ b. first b + size b ≤ length arrivals) bs → All (LosesLittle (λ b. (tally_of alike arrivals b).lost)) bs
     all_lose_little bs complete i d lo = block_loses _ (complete i d lo)
 
+    -- alike keys count the same
+    pub counted_alike : (other : K) → alike k other ≡ true → (bs : List Stretch) → All (λ b. first b + size b ≤ length arrivals) bs → counted alike (tally_of alike arrivals) bs other ≡ counted alike (tally_of alike arrivals) bs k
+    counted_alike other near [] complete = refl
+    counted_alike other near (b ∷ bs) complete =
+        let here = (block_tells b (All-head (λ c. first c + size c ≤ length arrivals) b bs complete)).same k other near in
+        omega (arith, sum_by-cons (λ c. count_in alike (tally_of alike arrivals c).rows other) b bs, sum_by-cons (λ c. count_in alike (tally_of alike arrivals c).rows k) b bs, here,
+        counted_alike other near bs (All-tail (λ c. first c + size c ≤ length arrivals) b bs complete))
+
     -- the newest n arrivals
     module _ (shape : Shape) (n a : ℕ) (come : n ≤ length arrivals) (accuracy : shape.top ≡ a + 3)
         (cover : IsCover shape (length arrivals) n (cover_of shape (length arrivals) n) (ignored_of shape (length arrivals) n)) (near : IsNear shape n (cover_of shape (length arrivals) n) (ignored_of shape (length arrivals) n)) where

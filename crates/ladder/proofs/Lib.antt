@@ -1,5 +1,6 @@
 pub mod Adding
 pub mod Covering
+pub mod Held
 pub mod Moves
 pub mod Naming
 pub mod Newest
