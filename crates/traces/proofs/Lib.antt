@@ -1,3 +1,4 @@
 pub mod Listed
 pub mod Slid
+pub mod Exact
 pub mod Progress

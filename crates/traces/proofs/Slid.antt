@@ -19,6 +19,7 @@ use Rattle.traces.specs.Steps.{Fits, Steps, done_by, is_done}
 use Rattle.traces.specs.Stages.{Follows, terms_at, written}
 
 module _ {P K : Type 0} (figures : P → Figures) (holds : P → List (Row K) → List Head → List K → List K → Type 0) (need : ℕ → ℕ → Lengths) (alike : K → K → Bool)
+    (bracket : P → List (Row K) → List Head → K → ℕ × ℕ) (listing : P → List (Row K) → List Head → ℕ → List (Entry K))
     (w w' : Fixed P) (rows rows' : List (Row K)) (heads heads' : List Head) (list : List (Entry K)) (key : K) (r : Result (Unit {0}) Refusal)
     (e : windows.Slid figures holds need w rows heads key r w' rows' heads') (rows_kept : length rows' ≡ length rows) (heads_kept : length heads' ≡ length heads) where
   abbrev t : Terms
@@ -56,12 +57,13 @@ module _ {P K : Type 0} (figures : P → Figures) (holds : P → List (Row K) �
   done_ok (Ok done) = refl
   done_ok (Err refusal) = refl
 
-  pub steps_slide : Steps figures holds need alike (Sliding w) rows heads list (Slide key) (Sliding w') (done_by r) rows' heads' list
+  pub steps_slide : Steps figures holds need alike bracket listing (Sliding w) rows heads list (Slide key) (Sliding w') (done_by r) rows' heads' list
   steps_slide = record {
     goes = λ past. elim [
       | [] ↦ λ h. absurd (omega (arith, e.some, h.size))
       | oldest ∷ rest ↦ λ h. goes past oldest rest h
     ];
+    gives = tt;
     kept = λ told. let kept = e.kept (sym (done_ok r) ∙ told) in (ap Sliding kept.0, kept.1, kept.2);
     fits = (list_kept r).0;
     list_after = (list_kept r).1;

@@ -1,4 +1,5 @@
 pub mod Account
+pub mod Determined
 pub mod Model
 pub mod Stages
 pub mod Steps

@@ -14,6 +14,7 @@ use Rattle.traces.specs.declared.calls.Answer.TheVariants.{Done, Refused, Counte
 use Rattle.traces.specs.declared.calls.Call.{Call}
 use Rattle.traces.specs.declared.stage.Stage.{Stage}
 use Rattle.traces.specs.Account.{Account}
+use Rattle.traces.specs.Determined.{Gives}
 use Rattle.traces.specs.Model.{Meets, due, next, told_as}
 use Rattle.traces.specs.Stages.{state_of, keeper_of, written, terms_at, Follows}
 
@@ -40,7 +41,8 @@ abbrev pub Fits : ℕ → Answer ℕ → Type 0
 Fits room (Listed count) = count ≤ room
 Fits room other = Unit {0}
 
-module _ {P K : Type 0} (figures : P → Figures) (holds : P → List (Row K) → List Head → List K → List K → Type 0) (need : ℕ → ℕ → Lengths) (alike : K → K → Bool) where
+module _ {P K : Type 0} (figures : P → Figures) (holds : P → List (Row K) → List Head → List K → List K → Type 0) (need : ℕ → ℕ → Lengths) (alike : K → K → Bool)
+    (bracket : P → List (Row K) → List Head → K → ℕ × ℕ) (listing : P → List (Row K) → List Head → ℕ → List (Entry K)) where
   -- one call from a stage on: the answer tells a list by the number of its entries, which stand at the list's front
   pub record Steps (s : Stage P) (rows : List (Row K)) (heads : List Head) (list : List (Entry K)) (call : Call K) (s' : Stage P) (answer : Answer ℕ) (rows' : List (Row K)) (heads' : List Head) (list' : List (Entry K)) : Type 0 where
     -- whatever window record and tables are true to: the answer is the one that is due, and the stage is where the account is then
@@ -48,6 +50,8 @@ module _ {P K : Type 0} (figures : P → Figures) (holds : P → List (Row K) �
         → let t = terms_at figures need (keeper_of s) rows heads in
         let a : Account K = record { state = state_of s; past = past; window = window } in
         Meets alike t a (length list) (due t a call) (told_as (λ count. take count list') answer) × Follows figures holds need t (next t a call) s' rows' heads'
+    -- a count's bracket and a list's entries are exactly the keeper's own
+    pub gives : Gives (bracket (keeper_of s) rows heads) (listing (keeper_of s) rows heads) call (told_as (λ count. take count list') answer)
     pub kept : is_done answer ≡ false → (s' ≡ s) × (rows' ≡ rows) × (heads' ≡ heads)
     pub fits : Fits (length list) answer
     pub list_after : list' ≡ written list (told_as (λ count. take count list') answer)

@@ -8,14 +8,18 @@ use Rattle.keeper.specs.Figures.{Figures}
 use Rattle.traces.specs.declared.calls.Call.{Call}
 use Rattle.traces.specs.declared.stage.Trace.{Trace}
 use Rattle.traces.specs.Account.{blank}
+use Rattle.traces.specs.Determined.{AllExact}
 use Rattle.traces.specs.Model.{Conform, after, told_as}
 use Rattle.traces.specs.Stages.{Follows, terms_of, written}
 
-module _ {P K : Type 0} (figures : P → Figures) (holds : P → List (Row K) → List Head → List K → List K → Type 0) (need : ℕ → ℕ → Lengths) where
+module _ {P K : Type 0} (figures : P → Figures) (holds : P → List (Row K) → List Head → List K → List K → Type 0) (need : ℕ → ℕ → Lengths) (alike : K → K → Bool)
+    (bracket : P → List (Row K) → List Head → K → ℕ × ℕ) (listing : P → List (Row K) → List Head → ℕ → List (Entry K)) where
   -- a whole trace of a setting, on these tables and with this list
-  pub record Runs (alike : K → K → Bool) (a k : ℕ) (calls : List (Call K)) (rows : List (Row K)) (heads : List Head) (list : List (Entry K)) (trace : Trace K P) (rows' : List (Row K)) (heads' : List Head) (list' : List (Entry K)) : Type 0 where
+  pub record Runs (a k : ℕ) (calls : List (Call K)) (rows : List (Row K)) (heads : List Head) (list : List (Entry K)) (trace : Trace K P) (rows' : List (Row K)) (heads' : List Head) (list' : List (Entry K)) : Type 0 where
     -- each answer is right by the account as it is then
     pub right : Conform alike (terms_of need a k rows heads) (length list) blank calls (map (told_as (λ entries. entries.items)) trace.answers.items)
+    -- and exactly what follows from the account, where the keeper's counts and lists follow from past and window
+    pub exact : AllExact figures holds bracket listing (terms_of need a k rows heads) blank calls (map (told_as (λ entries. entries.items)) trace.answers.items)
     -- and the trace ends where the account does
     pub follows : Follows figures holds need (terms_of need a k rows heads) (after (terms_of need a k rows heads) blank calls) trace.stage rows' heads'
     -- the list has the entries of one answer over those of the other; past the need, the tables are as they were

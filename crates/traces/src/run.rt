@@ -44,7 +44,7 @@ fn perform<K: Likeness, P: Keeper<K> + Drop>(
     call: Call<K>,
     heap: Global,
 ) -> Result<(Stage<P>, Answer<Vec<Entry<K>>>), AllocError>
-    ensures { IfOk result (λ next. StepsTelling P.Record.figures P.Keeper.holds P.Record.need K.Likeness.alike stage rows.old heads.old list.old call
+    ensures { IfOk result (λ next. StepsTelling P.Record.figures P.Keeper.holds P.Record.need K.Likeness.alike P.Keeper.bracket P.Keeper.listing stage rows.old heads.old list.old call
         next.0 (told_as (λ entries. entries.items) next.1) rows.new heads.new list.new) }
 {
     let (next, answer) = stage.step(rows, heads, list, call);
@@ -64,7 +64,7 @@ pub fn run_trace<K: Likeness, P: Keeper<K> + Drop>(
     calls: &[Call<K>],
     heap: Global,
 ) -> Result<Trace<K, P>, AllocError>
-    ensures { IfOk result (λ trace. Runs P.Record.figures P.Keeper.holds P.Record.need K.Likeness.alike setting.accuracy setting.span
+    ensures { IfOk result (λ trace. Runs P.Record.figures P.Keeper.holds P.Record.need K.Likeness.alike P.Keeper.bracket P.Keeper.listing setting.accuracy setting.span
         calls.now rows.old heads.old list.old trace rows.new heads.new list.new) }
 {
     let mut stage = Stage::Keeper(<P as Keeper<K>>::fresh(setting));

@@ -48,7 +48,7 @@ fn at_keeper<K: Likeness, P: Keeper<K>>(
     list: &mut [Entry<K>],
     call: Call<K>,
 ) -> (Stage<P>, Answer<usize>)
-    ensures { Steps P.Record.figures P.Keeper.holds P.Record.need K.Likeness.alike (Stage.Keeper keeper) rows.old heads.old list.old call result.0 result.1 rows.new heads.new list.new }
+    ensures { Steps P.Record.figures P.Keeper.holds P.Record.need K.Likeness.alike P.Keeper.bracket P.Keeper.listing (Stage.Keeper keeper) rows.old heads.old list.old call result.0 result.1 rows.new heads.new list.new }
 {
     match call {
         Call::Fix(goal) => match Filling::new(keeper, goal) {
@@ -83,7 +83,7 @@ fn at_filling<K: Likeness, P: Keeper<K>>(
     list: &mut [Entry<K>],
     call: Call<K>,
 ) -> (Stage<P>, Answer<usize>)
-    ensures { Steps P.Record.figures P.Keeper.holds P.Record.need K.Likeness.alike (Stage.Filling window) rows.old heads.old list.old call result.0 result.1 rows.new heads.new list.new }
+    ensures { Steps P.Record.figures P.Keeper.holds P.Record.need K.Likeness.alike P.Keeper.bracket P.Keeper.listing (Stage.Filling window) rows.old heads.old list.old call result.0 result.1 rows.new heads.new list.new }
 {
     match call {
         Call::Put(key) => {
@@ -116,7 +116,7 @@ fn at_sliding<K: Likeness, P: Keeper<K>>(
     list: &mut [Entry<K>],
     call: Call<K>,
 ) -> (Stage<P>, Answer<usize>)
-    ensures { Steps P.Record.figures P.Keeper.holds P.Record.need K.Likeness.alike (Stage.Sliding window) rows.old heads.old list.old call result.0 result.1 rows.new heads.new list.new }
+    ensures { Steps P.Record.figures P.Keeper.holds P.Record.need K.Likeness.alike P.Keeper.bracket P.Keeper.listing (Stage.Sliding window) rows.old heads.old list.old call result.0 result.1 rows.new heads.new list.new }
 {
     match call {
         Call::Slide(key) => {
@@ -149,7 +149,7 @@ impl<P: Record> Stage<P> {
     ) -> (Stage<P>, Answer<usize>)
     where
         P: Keeper<K>,
-        ensures { Steps P.Record.figures P.Keeper.holds P.Record.need K.Likeness.alike self rows.old heads.old list.old call result.0 result.1 rows.new heads.new list.new }
+        ensures { Steps P.Record.figures P.Keeper.holds P.Record.need K.Likeness.alike P.Keeper.bracket P.Keeper.listing self rows.old heads.old list.old call result.0 result.1 rows.new heads.new list.new }
     {
         match self {
             Stage::Keeper(keeper) => at_keeper(keeper, rows, heads, list, call),

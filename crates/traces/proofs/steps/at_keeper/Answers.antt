@@ -6,4 +6,4 @@ pub returns-in-List : goal.returns-in-List
 returns-in-List g c =
     rw c.in-List.is
     (rw c.listed.ensures
-    (steps_list g.P.Record.figures g.P.Keeper.holds g.P.Record.need g.K.Likeness.alike _ _ (Keeper c.args.keeper) _ _ _ _ _ _ c.list-outcome.ensures))
+    (steps_list g.P.Record.figures g.P.Keeper.holds g.P.Record.need g.K.Likeness.alike g.P.Keeper.bracket g.P.Keeper.listing (Keeper c.args.keeper) _ _ _ _ _ _ c.list-outcome.ensures))
