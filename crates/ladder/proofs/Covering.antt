@@ -68,7 +68,7 @@ module _ {K : Type 0} (alike : K → K → Bool) (arrivals : List K) (k : K) whe
 
     -- all blocks of a cover, one after the other
     between : (p q : ℕ) (bs : List Stretch) → Adjacent p q bs → All (λ b. first b + size b ≤ length arrivals) bs
-        → (upto p + counted alike (tally_of alike arrivals) bs k ≤ upto q) × (upto q ≤ upto p + (counted alike (tally_of alike arrivals) bs k + lost alike (tally_of alike arrivals) bs))
+        → (upto p + counted alike (tally_of alike arrivals) bs k ≤ upto q) × (upto q ≤ upto p + (counted alike (tally_of alike arrivals) bs k + lost (tally_of alike arrivals) bs))
     between p q [] e complete = let same = ap upto e in (omega (arith, same), omega (arith, same))
     between p q (b ∷ bs) e complete =
         let here = block_between b (All-head (λ b. first b + size b ≤ length arrivals) b bs complete) in
@@ -111,7 +111,7 @@ module _ {K : Type 0} (alike : K → K → Bool) (arrivals : List K) (k : K) whe
       few : truly ≤ n
       few = omega (arith, come, count_by-le-length (λ x. alike x k) (drop (length arrivals - n) arrivals), length-drop (length arrivals - n) arrivals)
 
-      pub truly_between : (counted alike (tally_of alike arrivals) blocks k ≤ truly) × (truly ≤ counted alike (tally_of alike arrivals) blocks k + (lost alike (tally_of alike arrivals) blocks + ignored))
+      pub truly_between : (counted alike (tally_of alike arrivals) blocks k ≤ truly) × (truly ≤ counted alike (tally_of alike arrivals) blocks k + (lost (tally_of alike arrivals) blocks + ignored))
       truly_between =
           let m = length arrivals in
           let p = start_of (scale_of shape n) m n in
@@ -133,7 +133,7 @@ module _ {K : Type 0} (alike : K → K → Bool) (arrivals : List K) (k : K) whe
       bracket_right =
           let says = truly_between in
           let counts = counted alike (tally_of alike arrivals) blocks k in
-          let losses = lost alike (tally_of alike arrivals) blocks in
+          let losses = lost (tally_of alike arrivals) blocks in
           record {
             floor = omega (arith, says.0);
             ceiling = omega (arith, says.1, few, come, small);

@@ -16,7 +16,6 @@ use Rattle.tally.specs.declared.rows.Head.{Head}
 use Rattle.tally.specs.declared.rows.Row.{Row}
 use Rattle.tally.specs.Steps.{Summary, count_in}
 use Rattle.layout.specs.Slots.{Shape, block_size}
-use Rattle.layout.specs.Inside.{IsShape}
 use Rattle.layout.specs.Blocks.{Stretch, first, size as size_of}
 use Rattle.layout.specs.Covers.{cover_of, ignored_of}
 use Rattle.layout.specs.Laws.{CanAnswer, IsBlock, IsWindow}
@@ -36,13 +35,13 @@ module _ {K : Type 0} (alike : K → K → Bool) (tally other : Stretch → Summ
       let here = ap (λ (t : Summary K). count_in alike t.rows k) (All-head (λ c. tally c ≡ other c) b bs same) in
       omega (arith, sum_by-cons (λ c. count_in alike (tally c).rows k) b bs, sum_by-cons (λ c. count_in alike (other c).rows k) b bs, here, counted_by_both bs (All-tail (λ c. tally c ≡ other c) b bs same) k)
 
-  lost_by_both : (bs : List Stretch) → All (λ b. tally b ≡ other b) bs → lost alike tally bs ≡ lost alike other bs
+  lost_by_both : (bs : List Stretch) → All (λ b. tally b ≡ other b) bs → lost tally bs ≡ lost other bs
   lost_by_both [] same = refl
   lost_by_both (b ∷ bs) same =
       let here = ap (λ (t : Summary K). t.lost) (All-head (λ c. tally c ≡ other c) b bs same) in
       omega (arith, sum_by-cons (λ c. (tally c).lost) b bs, sum_by-cons (λ c. (other c).lost) b bs, here, lost_by_both bs (All-tail (λ c. tally c ≡ other c) b bs same))
 
-  keys_in_both : (bs : List Stretch) → All (λ b. tally b ≡ other b) bs → keys_in alike tally bs ≡ keys_in alike other bs
+  keys_in_both : (bs : List Stretch) → All (λ b. tally b ≡ other b) bs → keys_in tally bs ≡ keys_in other bs
   keys_in_both [] same = refl
   keys_in_both (b ∷ bs) same =
       let here = ap (λ (t : Summary K). map (λ row. row.key) t.rows) (All-head (λ c. tally c ≡ other c) b bs same) in
@@ -63,9 +62,12 @@ module _ {K : Type 0} (alike : K → K → Bool) (tally other : Stretch → Summ
 newest_can : (shape : Shape) (m n : ℕ) (b : Stretch) → IsBlock shape b → CanAnswer shape m n b → IsNewest shape m b
 newest_can shape m n b is can = record { there = is; begun = omega (arith, can.complete, pow_pos (b.scale + b.level)); newest = can.kept }
 
--- A ladder in its range, beside tables that are true to a window.
-module _ {K : Type 0} (alike : K → K → Bool) (s : Figures) (is : IsShape (shape_at s).top (shape_at s).scales) (rows : List (Row K)) (heads : List Head) (past window : List K)
-    (held : HoldsWindow alike s rows heads past window) (size : s.size ≡ length window) (puts : s.puts ≡ length past + length window) (fits : IsWindow (shape_at s) s.puts s.size) where
+-- A ladder and tables that are true to a window.
+module _ {K : Type 0} (alike : K → K → Bool) (s : Figures) (rows : List (Row K)) (heads : List Head) (past window : List K)
+    (held : HoldsWindow alike s rows heads past window) (size : s.size ≡ length window) (puts : s.puts ≡ length past + length window) where
+  fits : IsWindow (shape_at s) s.puts s.size
+  fits = record { come = omega (arith, size, puts); short = omega (arith, size, held.short) }
+
   abbrev arrivals : List K
   arrivals = past ++ window
 
@@ -75,9 +77,9 @@ module _ {K : Type 0} (alike : K → K → Bool) (s : Figures) (is : IsShape (sh
   -- the slots of the cover hold the tallies of their blocks
   covered : All (λ b. tally_at (tables rows heads) b ≡ tally_of alike arrivals b) (cover_of (shape_at s) s.puts s.size)
   covered i d lo =
-      let cover = cover_is (shape_at s) s.puts s.size is fits in
+      let cover = cover_is (shape_at s) s.puts s.size held.levels fits in
       let b = slice_index_or (cover_of (shape_at s) s.puts s.size) i d in
-      held b (subst (λ m. IsNewest (shape_at s) m b) (sym came) (newest_can (shape_at s) s.puts s.size b (cover.there i d lo) (cover.answer i d lo)))
+      held.tallies b (subst (λ m. IsNewest (shape_at s) m b) (sym came) (newest_can (shape_at s) s.puts s.size b (cover.there i d lo) (cover.answer i d lo)))
 
   pub bracket_held : (k : K) → bracket alike s rows heads k ≡ bracket_of alike (tally_of alike arrivals) (shape_at s) s.puts s.size k
   bracket_held k = bracket_by_both alike (tally_at (tables rows heads)) (tally_of alike arrivals) (shape_at s) s.puts s.size covered k
@@ -102,8 +104,8 @@ module _ {K : Type 0} (alike : K → K → Bool) (s : Figures) (is : IsShape (sh
 
     pub bracket_is_right : (k : K) → Bracket s.accuracy (length window) (true_count alike window k) (bracket alike s rows heads k)
     bracket_is_right k =
-        let cover = cover_is (shape_at s) (length arrivals) s.size is fits_now in
-        let near = cover_is_near (shape_at s) (length arrivals) s.size is fits_now in
+        let cover = cover_is (shape_at s) (length arrivals) s.size held.levels fits_now in
+        let near = cover_is_near (shape_at s) (length arrivals) s.size held.levels fits_now in
         let right = bracket_right alike arrivals k symm tran small (shape_at s) s.size s.accuracy enough refl cover near in
         rw (bracket_held k)
         (subst (λ m. Bracket s.accuracy (length window) (true_count alike window k) (bracket_of alike (tally_of alike arrivals) (shape_at s) m s.size k)) came
@@ -112,8 +114,8 @@ module _ {K : Type 0} (alike : K → K → Bool) (s : Figures) (is : IsShape (sh
 
     pub listing_is_right : (threshold : ℕ) → unfit s threshold ≡ false → Lists alike s.accuracy threshold window (listing alike s rows heads threshold)
     listing_is_right threshold fit =
-        let cover = cover_is (shape_at s) (length arrivals) s.size is fits_now in
-        let near = cover_is_near (shape_at s) (length arrivals) s.size is fits_now in
+        let cover = cover_is (shape_at s) (length arrivals) s.size held.levels fits_now in
+        let near = cover_is_near (shape_at s) (length arrivals) s.size held.levels fits_now in
         let some : 1 ≤ threshold = grind (arith, nat_tests) in
         let reach : s.size ≤ threshold * 2 ^ s.accuracy = grind (arith, nat_tests) in
         let right = names_right alike self symm tran arrivals small (shape_at s) s.size s.accuracy enough refl cover near threshold some reach in
@@ -124,9 +126,9 @@ module _ {K : Type 0} (alike : K → K → Bool) (s : Figures) (is : IsShape (sh
     -- alike keys have the same bracket
     pub bracket_alike : (k other : K) → alike k other ≡ true → bracket alike s rows heads other ≡ bracket alike s rows heads k
     bracket_alike k other near =
-        let cover = cover_is (shape_at s) s.puts s.size is fits in
+        let cover = cover_is (shape_at s) s.puts s.size held.levels fits in
         let complete : All (λ b. first b + size_of b ≤ length arrivals) (cover_of (shape_at s) s.puts s.size) = λ i d lo. omega (arith, came, (cover.answer i d lo).complete) in
         let counts = counted_alike alike arrivals k symm tran small other near (cover_of (shape_at s) s.puts s.size) complete in
-        let losses = lost alike (tally_of alike arrivals) (cover_of (shape_at s) s.puts s.size) in
+        let losses = lost (tally_of alike arrivals) (cover_of (shape_at s) s.puts s.size) in
         let ignored = ignored_of (shape_at s) s.puts s.size in
         bracket_held other ∙ (λ i. (min (counts i) 4294967295, min (counts i + (losses + ignored)) 4294967295)) ∙ sym (bracket_held k)

@@ -1,14 +1,14 @@
 -- A ladder that counted a key in its blocks, or forgot its oldest, has put and dropped as a keeper does. Assumes nothing.
-use Rattle.std.proofs.Common.{◌≡◌, ℕ, ◌+◌, ◌*◌, ◌<◌, ◌≤◌, Bool, true, false, cond, List, [], ◌∷◌, ◌++◌, length, drop, is_ok, Result, sym, refl, ap, ◌∙◌, subst, append_assoc, length-append, arith}
-use Rattle.std.proofs.lemmas.Bool.{cond_both}
+use Rattle.std.proofs.Common.{◌≡◌, ℕ, ◌+◌, ◌-◌, ◌*◌, ◌^◌, ◌<◌, ◌≤◌, Bool, true, false, cond, List, [], ◌∷◌, ◌++◌, length, drop, is_ok, Result, sym, refl, ap, ◌∙◌, subst, append_assoc, length-append, arith}
+use Rattle.std.proofs.lemmas.List.{length_push}
 use Rattle.keeper.specs.declared.refusal.Refusal.{Refusal}
 use Rattle.keeper.specs.Figures.{Figures, grown, shrunk}
 use Rattle.keeper.specs.Refusals.{drop_answer, put_answer}
 use Rattle.keeper.specs.Rules.{Dropped, Put, TrueTo}
 use Rattle.keeper.specs.Tables.{lengths, needed}
-use Rattle.keeper.proofs.Admits.{room_admitted}
+use Rattle.keeper.proofs.Admits.{put_admitted, room_admitted}
 use Rattle.keeper.proofs.Truths.{true_drop, true_put}
-use Rattle.layout.specs.Slots.{scale_heads, scale_rows}
+use Rattle.layout.proofs.SmallNumbers.{shape_small}
 use Rattle.tally.specs.declared.rows.Head.{Head}
 use Rattle.tally.specs.declared.rows.Row.{Row}
 use Rattle.ladder.specs.Ladders.{need_of, shape_at, stored}
@@ -18,7 +18,7 @@ use Rattle.ladder.proofs.Newest.{put_holds}
 use Rattle.ladder.proofs.Visits.{put_behind, put_leaves, put_steps}
 
 module _ {K : Type 0} (alike : K → K → Bool) (s s' : Figures) (r : Result (Unit {0}) Refusal) where
-  module _ (few : (shape_at s).scales * scale_rows (shape_at s).top < 4294967296) (rows rows' : List (Row K)) (heads heads' : List Head) (key : K)
+  module _ (rows rows' : List (Row K)) (heads heads' : List Head) (key : K)
       (answer : r ≡ put_answer (needed (λ f. f) need_of s) (lengths rows heads) s) (told : s' ≡ cond (is_ok r) (grown s) s)
       (written : tables rows' heads' ≡ cond (is_ok r) (stored alike s rows heads key) (tables rows heads)) where
     room : is_ok r ≡ true → HasRoom (shape_at s) rows heads
@@ -38,21 +38,28 @@ module _ {K : Type 0} (alike : K → K → Bool) (s s' : Figures) (r : Result (U
         subst (TakesSteps alike s.puts key (shape_at s) (tables rows heads)) (sym (after ok))
         (record { steps = put_steps alike s.puts key (shape_at s) (tables rows heads) (room ok); stays = put_leaves alike s.puts key (shape_at s) (tables rows heads) (room ok) })
 
-    takes : is_ok r ≡ true → (past window : List K) → length past + length window ≡ s.puts → HoldsWindow alike s rows heads past window → HoldsWindow alike s' rows' heads' past (window ++ key ∷ [])
-    takes ok past window came held =
+    takes : is_ok r ≡ true → (past window : List K) → length past + length window ≡ s.puts → s.size ≡ length window → HoldsWindow alike s rows heads past window → HoldsWindow alike s' rows' heads' past (window ++ key ∷ [])
+    takes ok past window came size held =
         let many : length (past ++ window) ≡ s.puts = length-append past window ∙ came in
-        let holds = put_holds alike (shape_at s) few (past ++ window) key (tables rows heads) (room ok) held in
+        let few = shape_small (shape_at s).top (shape_at s).scales held.levels in
+        let free = put_admitted (needed (λ f. f) need_of s) (lengths rows heads) s (ap is_ok (sym answer) ∙ ok) in
+        let last : (shape_at s).top + ((shape_at s).scales - 1) ≡ s.span = omega (arith, held.levels.some) in
+        let holds = put_holds alike (shape_at s) (omega (arith, few)) (past ++ window) key (tables rows heads) (room ok) held.tallies in
         let now : HoldsTallies alike (shape_at s) (tables rows' heads') ((past ++ window) ++ key ∷ []) =
             subst (λ t. HoldsTallies alike (shape_at s) t ((past ++ window) ++ key ∷ [])) (sym (after ok))
             (subst (λ m. HoldsTallies alike (shape_at s) (put_tables alike m key (shape_at s) (tables rows heads)) ((past ++ window) ++ key ∷ [])) many holds) in
         subst (λ f. HoldsWindow alike f rows' heads' past (window ++ key ∷ [])) (sym (tells ok))
-        (subst (HoldsTallies alike (shape_at s) (tables rows' heads')) (append_assoc past window (key ∷ [])) now)
+        (record {
+          levels = held.levels;
+          short = omega (arith, free.1, size, length_push window key, ap (λ e. 2 ^ e) last);
+          tallies = subst (HoldsTallies alike (shape_at s) (tables rows' heads')) (append_assoc past window (key ∷ [])) now;
+        })
 
     pub stored_puts : Put (λ f. f) (HoldsWindow alike) need_of s rows heads key r s' rows' heads'
     stored_puts = record {
       answer = answer;
       tells = tells;
-      takes = λ ok past window t. true_put (λ f. f) (HoldsWindow alike) s s' rows rows' heads heads' past window key (tells ok) t (takes ok past window (sym t.puts) t.held);
+      takes = λ ok past window t. true_put (λ f. f) (HoldsWindow alike) s s' rows rows' heads heads' past window key (tells ok) t (takes ok past window (sym t.puts) t.size t.held);
       kept = λ no_ok. (told ∙ ap (λ b. cond b (grown s) s) no_ok, ap (λ t. t.rows) (kept no_ok), ap (λ t. t.heads) (kept no_ok));
       rows_rest = behind.0;
       heads_rest = behind.1;
@@ -76,6 +83,10 @@ module _ {K : Type 0} (alike : K → K → Bool) (s s' : Figures) (r : Result (U
         leaves = λ ok rows heads past oldest window t.
             true_drop (λ f. f) (HoldsWindow alike) s s' rows rows heads heads past oldest window (tells ok) t
             (subst (λ f. HoldsWindow alike f rows heads (past ++ oldest ∷ []) window) (sym (tells ok))
-            (subst (HoldsTallies alike (shape_at s) (tables rows heads)) (sym (append_assoc past (oldest ∷ []) window)) t.held));
+            (record {
+              levels = t.held.levels;
+              short = omega (arith, t.held.short);
+              tallies = subst (HoldsTallies alike (shape_at s) (tables rows heads)) (sym (append_assoc past (oldest ∷ []) window)) t.held.tallies;
+            }));
         kept = λ no_ok. told ∙ ap (λ b. cond b (shrunk s) s) no_ok;
       }

@@ -27,7 +27,7 @@ module _ {K : Type 0} (alike : K → K → Bool) where
   none_counted [] k h = refl
   none_counted (row ∷ rows) k h = let again = none_counted rows k in grind arith
 
-  pub none_in_all : (tally : Stretch → Summary K) (bs : List Stretch) (k : K) → among alike (keys_in alike tally bs) k ≡ false → counted alike tally bs k ≡ 0
+  pub none_in_all : (tally : Stretch → Summary K) (bs : List Stretch) (k : K) → among alike (keys_in tally bs) k ≡ false → counted alike tally bs k ≡ 0
   none_in_all tally [] k h = refl
   none_in_all tally (b ∷ bs) k h =
       let row_keys : Stretch → List K = λ b. map (λ row. row.key) (tally b).rows in
@@ -38,7 +38,7 @@ module _ {K : Type 0} (alike : K → K → Bool) where
       grind arith
 
   -- what holds of each row's key
-  keys_all : (tally : Stretch → Summary K) (P : K → Type 0) (bs : List Stretch) → All (λ b. All (λ row. P row.key) (tally b).rows) bs → All P (keys_in alike tally bs)
+  keys_all : (tally : Stretch → Summary K) (P : K → Type 0) (bs : List Stretch) → All (λ b. All (λ row. P row.key) (tally b).rows) bs → All P (keys_in tally bs)
   keys_all tally P [] h = All-nil P
   keys_all tally P (b ∷ bs) h =
       let row_keys : Stretch → List K = λ b. map (λ row. row.key) (tally b).rows in
@@ -75,23 +75,23 @@ module _ {K : Type 0} (alike : K → K → Bool) where
         omega (arith, own, inside, ap (λ xs. true_count alike (take (size b) xs) k) (drop-drop (first b - (length arrivals - n)) (length arrivals - n) arrivals), ap (λ f. true_count alike (take (size b) (drop f arrivals)) k) there)
 
     -- a key that counts enough has a row
-    enough_named : (threshold : ℕ) → 1 ≤ threshold → n ≤ threshold * 2 ^ a → (k : K) → threshold ≤ true_count alike window k → among alike (keys_in alike (tally_of alike arrivals) blocks) k ≡ true
-    enough_named threshold some reach k enough = ways (among alike (keys_in alike (tally_of alike arrivals) blocks) k) refl
+    enough_named : (threshold : ℕ) → 1 ≤ threshold → n ≤ threshold * 2 ^ a → (k : K) → threshold ≤ true_count alike window k → among alike (keys_in (tally_of alike arrivals) blocks) k ≡ true
+    enough_named threshold some reach k enough = ways (among alike (keys_in (tally_of alike arrivals) blocks) k) refl
       where
-        ways : (b : Bool) → among alike (keys_in alike (tally_of alike arrivals) blocks) k ≡ b → b ≡ true
+        ways : (b : Bool) → among alike (keys_in (tally_of alike arrivals) blocks) k ≡ b → b ≡ true
         ways true e = refl
         ways false e =
             let tally = tally_of alike arrivals in
             let none = none_in_all tally blocks k e in
             let says = truly_between alike arrivals k symm tran small shape n a come accuracy cover near in
             let little = all_lose_little alike arrivals k symm tran small blocks (λ i d lo. (cover.answer i d lo).complete) in
-            let missed : threshold ≤ ignored_of shape (length arrivals) n + lost alike tally blocks = omega (arith, none, says.1) in
+            let missed : threshold ≤ ignored_of shape (length arrivals) n + lost tally blocks = omega (arith, none, says.1) in
             let n_some : 1 ≤ n = omega (arith, some, enough, count_by-le-length (λ x. alike x k) window, long) in
             absurd (omega (arith, mul-le-mul_left (2 ^ a) missed, mul_comm (2 ^ a) threshold, near.near a accuracy (λ b. (tally b).lost) little n_some))
 
     pub names_right : (threshold : ℕ) → 1 ≤ threshold → n ≤ threshold * 2 ^ a → Lists alike a threshold window (listing_of alike (tally_of alike arrivals) shape (length arrivals) n threshold)
     names_right threshold some reach =
-        listed_lists alike symm tran a threshold (bracket_of alike (tally_of alike arrivals) shape (length arrivals) n) (keys_in alike (tally_of alike arrivals) blocks) window
+        listed_lists alike symm tran a threshold (bracket_of alike (tally_of alike arrivals) shape (length arrivals) n) (keys_in (tally_of alike arrivals) blocks) window
         (λ k. rw long (bracket_right alike arrivals k symm tran small shape n a come accuracy cover near))
         (keys_all (tally_of alike arrivals) (Stands alike window) blocks (λ i d lo. block_stands _ (cover.answer i d lo)))
         (enough_named threshold some reach)

@@ -6,7 +6,8 @@ use Rattle.tally.specs.declared.rows.Row.{Row}
 use Rattle.tally.specs.Steps.{Summary, run}
 use Rattle.layout.specs.Slots.{Shape, rows_at, shape_of}
 use Rattle.layout.specs.Blocks.{Stretch, first, size, slot_of}
-use Rattle.layout.specs.Laws.{IsBlock}
+use Rattle.layout.specs.Inside.{IsShape}
+use Rattle.layout.specs.Laws.{IsBlock, longest}
 use Rattle.ladder.specs.Tables.{Tables, tables, tally_at}
 
 -- the keys of a block among all arrivals, as far as they have come
@@ -27,6 +28,8 @@ pub record IsNewest (shape : Shape) (m : ℕ) (b : Stretch) : Type 0 where
 abbrev pub HoldsTallies : {K : Type 0} → (K → K → Bool) → Shape → Tables K → List K → Type 0
 HoldsTallies alike shape t arrivals = (b : Stretch) → IsNewest shape (length arrivals) b → tally_at t b ≡ tally_of alike arrivals b
 
--- the tables of a ladder are true to a window, after a past
-abbrev pub HoldsWindow : {K : Type 0} → (K → K → Bool) → Figures → List (Row K) → List Head → List K → List K → Type 0
-HoldsWindow alike f rows heads past window = HoldsTallies alike (shape_of f.accuracy f.span) (tables rows heads) (past ++ window)
+-- record and tables of a ladder are true to a window, after a past
+pub record HoldsWindow {K : Type 0} (alike : K → K → Bool) (s : Figures) (rows : List (Row K)) (heads : List Head) (past window : List K) : Type 0 where
+  pub levels : IsShape (shape_of s.accuracy s.span).top (shape_of s.accuracy s.span).scales
+  pub short : length window ≤ longest (shape_of s.accuracy s.span)
+  pub tallies : HoldsTallies alike (shape_of s.accuracy s.span) (tables rows heads) (past ++ window)

@@ -22,7 +22,7 @@ loop-block-init g c =
       blocks = rw from found.there;
       small = omega arith;
       floor = search (rules, blocks);
-      uncounted = ap (λ bs. capped (c.cover-cover.result.ignored + lost g.K.Likeness.alike tally bs)) blocks ∙ ap (λ n. capped (n + lost g.K.Likeness.alike tally (cover_of s.layout s.arrivals s.size))) found.ignored;
+      uncounted = ap (λ bs. capped (c.cover-cover.result.ignored + lost tally bs)) blocks ∙ ap (λ n. capped (n + lost tally (cover_of s.layout s.arrivals s.size))) found.ignored;
     }
 
 pub slot-slot-requires : goal.slot-slot-requires
@@ -52,4 +52,4 @@ returns g c =
     let tally = tally_at (tables s.rows.now s.heads.now) in
     let whole = cover_of s.layout s.arrivals s.size in
     let ended = c.in-None.ensures.steps.0 in
-    bracket_added c.loop-block.floor c.loop-block.uncounted c.saturating_add.result (counted g.K.Likeness.alike tally whole c.args.key.now) (lost g.K.Likeness.alike tally whole) _ c.loop-block.invariant.small (omega (arith, rw ended at c.loop-block.invariant.floor)) (omega (arith, rw ended at c.loop-block.invariant.uncounted)) c.saturating_add.ensures
+    bracket_added c.loop-block.floor c.loop-block.uncounted c.saturating_add.result (counted g.K.Likeness.alike tally whole c.args.key.now) (lost tally whole) _ c.loop-block.invariant.small (omega (arith, rw ended at c.loop-block.invariant.floor)) (omega (arith, rw ended at c.loop-block.invariant.uncounted)) c.saturating_add.ensures

@@ -17,5 +17,5 @@ invariant-loop-block g l =
       blocks : All (IsBlock s.layout) l.block-iterator;
       small : l.floor < 4294967296;
       floor : capped (l.floor + counted g.K.Likeness.alike tally l.block-iterator l.fn.key) ≡ capped (counted g.K.Likeness.alike tally whole l.fn.key);
-      uncounted : capped (l.uncounted + lost g.K.Likeness.alike tally l.block-iterator) ≡ capped (ignored_of s.layout s.arrivals s.size + lost g.K.Likeness.alike tally whole);
+      uncounted : capped (l.uncounted + lost tally l.block-iterator) ≡ capped (ignored_of s.layout s.arrivals s.size + lost tally whole);
     }
