@@ -1,10 +1,10 @@
 -- What the tallies of a cover's blocks say of the window. Assumes nothing, but that alike is symmetric and transitive.
-use Rattle.std.proofs.Common.{◌≡◌, ℕ, zero, suc, ◌+◌, ◌-◌, ◌*◌, ◌^◌, ◌<◌, ◌≤◌, min, Bool, true, List, [], ◌∷◌, ◌++◌, All, length, drop, take, sum_by, count_by, refl, ap, ◌∙◌, sym, subst, mul-le-mul_left, arith}
+use Rattle.std.proofs.Common.{◌≡◌, ℕ, zero, suc, ◌+◌, ◌-◌, ◌^◌, ◌<◌, ◌≤◌, min, Bool, true, List, [], ◌∷◌, All, length, drop, take, sum_by, refl, ap, ◌∙◌, sym, mul-le-mul_left, arith}
 use Rattle.std.proofs.lemmas.Bool.Decides.{nat_tests}
-use Rattle.std.proofs.lemmas.List.{drop-take, length-drop, length-take, take-append-drop, take_all}
-use Rattle.std.proofs.lemmas.List.Elements.{All-cons, All-head, All-nil, All-tail}
+use Rattle.std.proofs.lemmas.List.{length-drop, length-take, take-append-drop, take_all}
+use Rattle.std.proofs.lemmas.List.Elements.{All-head, All-tail}
 use Rattle.std.proofs.lemmas.List.Sums.{count_by-le-length, sum_by-append, sum_by-cons}
-use Rattle.std.proofs.Math.Seq.{drop-append_seam, take-add}
+use Rattle.std.proofs.Math.Seq.{take-add}
 use Rattle.keeper.specs.Rules.{Bracket}
 use Rattle.likeness.specs.Counts.{true_count}
 use Rattle.tally.specs.Laws.{Tells}
@@ -13,7 +13,7 @@ use Rattle.tally.proofs.Tellings.{run_tells}
 use Rattle.layout.specs.Slots.{Shape, rows_at}
 use Rattle.layout.specs.Blocks.{Stretch, first, size}
 use Rattle.layout.specs.Covers.{cover_of, end_of, ignored_of, scale_from, scale_of, start_of}
-use Rattle.layout.specs.Laws.{Adjacent, CanAnswer, IsCover, IsNear, LosesLittle}
+use Rattle.layout.specs.Laws.{Adjacent, IsCover, IsNear, LosesLittle}
 use Rattle.ladder.specs.Sums.{bracket_of, counted, lost}
 use Rattle.ladder.specs.Truth.{keys_of, tally_of}
 
@@ -87,8 +87,13 @@ module _ {K : Type 0} (alike : K → K → Bool) (arrivals : List K) (k : K) whe
     counted_alike other near [] complete = refl
     counted_alike other near (b ∷ bs) complete =
         let here = (block_tells b (All-head (λ c. first c + size c ≤ length arrivals) b bs complete)).same k other near in
-        omega (arith, sum_by-cons (λ c. count_in alike (tally_of alike arrivals c).rows other) b bs, sum_by-cons (λ c. count_in alike (tally_of alike arrivals c).rows k) b bs, here,
-        counted_alike other near bs (All-tail (λ c. first c + size c ≤ length arrivals) b bs complete))
+        omega (
+          arith,
+          sum_by-cons (λ c. count_in alike (tally_of alike arrivals c).rows other) b bs,
+          sum_by-cons (λ c. count_in alike (tally_of alike arrivals c).rows k) b bs,
+          here,
+          counted_alike other near bs (All-tail (λ c. first c + size c ≤ length arrivals) b bs complete),
+        )
 
     -- the newest n arrivals
     module _ (shape : Shape) (n a : ℕ) (come : n ≤ length arrivals) (accuracy : shape.top ≡ a + 3)
@@ -123,8 +128,7 @@ module _ {K : Type 0} (alike : K → K → Bool) (arrivals : List K) (k : K) whe
           let before = upto_step (m - n) (p - (m - n)) in
           let behind = upto_step q (m - q) in
           let rest = upto_rest (m - n) in
-          let sizes = adjacent_sizes p q blocks cover.adjacent in
-          (
+          let sizes = adjacent_sizes p q blocks cover.adjacent in (
             omega (arith, held.0, before.0, behind.0, rest, ap upto front, ap upto back),
             omega (arith, held.1, before.1, behind.1, rest, ap upto front, ap upto back, sizes, cover.whole, ends.from, ends.to, come),
           )

@@ -1,28 +1,27 @@
 -- Tables that are true to what came answer as the tallies of the arrivals do, and so rightly. Assumes nothing, but that alike is an equivalence.
-use Rattle.std.proofs.Common.{◌≡◌, ℕ, ◌+◌, ◌-◌, ◌*◌, ◌^◌, ◌<◌, ◌≤◌, min, Bool, true, false, List, [], ◌∷◌, ◌++◌, All, map, flat_map, filter, leb, length, drop, slice_index_or, sum_by, refl, ap, ◌∙◌, sym, subst, length-append, arith}
+use Rattle.std.proofs.Common.{◌≡◌, ℕ, ◌+◌, ◌-◌, ◌*◌, ◌^◌, ◌<◌, ◌≤◌, min, Bool, true, false, List, [], ◌∷◌, ◌++◌, All, map, length, drop, slice_index_or, refl, ap, ◌∙◌, sym, subst, length-append, arith}
 use Rattle.std.proofs.lemmas.Bool.Decides.{nat_tests}
 use Rattle.std.proofs.lemmas.List.Elements.{All-head, All-tail}
 use Rattle.std.proofs.lemmas.List.Concat.{flat_map-cons}
 use Rattle.std.proofs.lemmas.List.Sums.{sum_by-cons}
 use Rattle.std.proofs.lemmas.Nat.{pow_pos}
 use Rattle.std.proofs.Math.Seq.{drop-append_seam}
-use Rattle.keeper.specs.declared.entry.Entry.{Entry}
 use Rattle.keeper.specs.Figures.{Figures}
-use Rattle.keeper.specs.Listing.{entry_of, firsts, listed}
+use Rattle.keeper.specs.Listing.{listed}
 use Rattle.keeper.specs.Refusals.{unfit}
 use Rattle.keeper.specs.Rules.{Bracket, Lists}
 use Rattle.likeness.specs.Counts.{true_count}
 use Rattle.tally.specs.declared.rows.Head.{Head}
 use Rattle.tally.specs.declared.rows.Row.{Row}
 use Rattle.tally.specs.Steps.{Summary, count_in}
-use Rattle.layout.specs.Slots.{Shape, block_size}
+use Rattle.layout.specs.Slots.{Shape}
 use Rattle.layout.specs.Blocks.{Stretch, first, size as size_of}
 use Rattle.layout.specs.Covers.{cover_of, ignored_of}
 use Rattle.layout.specs.Laws.{CanAnswer, IsBlock, IsWindow}
 use Rattle.layout.proofs.CoverLaws.{cover_is, cover_is_near}
 use Rattle.ladder.specs.Ladders.{bracket, listing, shape_at}
-use Rattle.ladder.specs.Sums.{bracket_from, bracket_of, counted, keys_in, listing_of, lost}
-use Rattle.ladder.specs.Tables.{Tables, tables, tally_at}
+use Rattle.ladder.specs.Sums.{bracket_of, counted, keys_in, listing_of, lost}
+use Rattle.ladder.specs.Tables.{tables, tally_at}
 use Rattle.ladder.specs.Truth.{HoldsWindow, IsNewest, tally_of}
 use Rattle.ladder.proofs.Covering.{bracket_right, counted_alike}
 use Rattle.ladder.proofs.Naming.{names_right}
@@ -87,9 +86,9 @@ module _ {K : Type 0} (alike : K → K → Bool) (s : Figures) (rows : List (Row
   pub listing_held : (threshold : ℕ) → listing alike s rows heads threshold ≡ listing_of alike (tally_of alike arrivals) (shape_at s) s.puts s.size threshold
   listing_held threshold = listing_by_both alike (tally_at (tables rows heads)) (tally_of alike arrivals) (shape_at s) s.puts s.size covered threshold
 
-  module _ (self : (x : K) → alike x x ≡ true) (symm : (x y : K) → alike x y ≡ true → alike y x ≡ true) (tran : (x y z : K) → alike x y ≡ true → alike y z ≡ true → alike x z ≡ true) (few : s.puts < 4294967296) where
+  module _ (self : (x : K) → alike x x ≡ true) (symm : (x y : K) → alike x y ≡ true → alike y x ≡ true) (tran : (x y z : K) → alike x y ≡ true → alike y z ≡ true → alike x z ≡ true) where
     small : length arrivals < 4294967296
-    small = omega (arith, came, few)
+    small = omega (arith, came, puts, held.few)
 
     enough : s.size ≤ length arrivals
     enough = omega (arith, came, fits.come)

@@ -1,4 +1,5 @@
 pub mod Adding
+pub mod CoverKeys
 pub mod Covering
 pub mod Held
 pub mod Moves
@@ -6,5 +7,6 @@ pub mod Naming
 pub mod Newest
 pub mod Parts
 pub mod Rooms
+pub mod Seen
 pub mod Visiting
 pub mod Visits

@@ -1,18 +1,18 @@
--- A ladder that counted a key in its blocks, or forgot its oldest, has put and dropped as a keeper does. Assumes nothing.
-use Rattle.std.proofs.Common.{◌≡◌, ℕ, ◌+◌, ◌-◌, ◌*◌, ◌^◌, ◌<◌, ◌≤◌, Bool, true, false, cond, List, [], ◌∷◌, ◌++◌, length, drop, is_ok, Result, sym, refl, ap, ◌∙◌, subst, append_assoc, length-append, arith}
+-- A ladder that counted a key in its blocks has put as a keeper does. Assumes nothing.
+use Rattle.std.proofs.Common.{◌≡◌, ◌+◌, ◌-◌, ◌^◌, Bool, true, false, cond, List, [], ◌∷◌, ◌++◌, length, drop, is_ok, Result, sym, refl, ap, ◌∙◌, subst, append_assoc, length-append, arith}
 use Rattle.std.proofs.lemmas.List.{length_push}
 use Rattle.keeper.specs.declared.refusal.Refusal.{Refusal}
-use Rattle.keeper.specs.Figures.{Figures, grown, shrunk}
-use Rattle.keeper.specs.Refusals.{drop_answer, put_answer}
-use Rattle.keeper.specs.Rules.{Dropped, Put, TrueTo}
+use Rattle.keeper.specs.Figures.{Figures, grown}
+use Rattle.keeper.specs.Refusals.{put_answer}
+use Rattle.keeper.specs.Rules.{Put}
 use Rattle.keeper.specs.Tables.{lengths, needed}
-use Rattle.keeper.proofs.Admits.{put_admitted, room_admitted}
-use Rattle.keeper.proofs.Truths.{true_drop, true_put}
+use Rattle.keeper.proofs.Admits.{Admitted, put_admitted}
+use Rattle.keeper.proofs.Truths.{true_put}
 use Rattle.layout.proofs.SmallNumbers.{shape_small}
 use Rattle.tally.specs.declared.rows.Head.{Head}
 use Rattle.tally.specs.declared.rows.Row.{Row}
 use Rattle.ladder.specs.Ladders.{need_of, shape_at, stored}
-use Rattle.ladder.specs.Tables.{HasRoom, put_tables, Tables, tables, TakesSteps}
+use Rattle.ladder.specs.Tables.{HasRoom, put_tables, tables, TakesSteps}
 use Rattle.ladder.specs.Truth.{HoldsTallies, HoldsWindow}
 use Rattle.ladder.proofs.Newest.{put_holds}
 use Rattle.ladder.proofs.Visits.{put_behind, put_leaves, put_steps}
@@ -21,8 +21,11 @@ module _ {K : Type 0} (alike : K → K → Bool) (s s' : Figures) (r : Result (U
   module _ (rows rows' : List (Row K)) (heads heads' : List Head) (key : K)
       (answer : r ≡ put_answer (needed (λ f. f) need_of s) (lengths rows heads) s) (told : s' ≡ cond (is_ok r) (grown s) s)
       (written : tables rows' heads' ≡ cond (is_ok r) (stored alike s rows heads key) (tables rows heads)) where
+    admitted : is_ok r ≡ true → Admitted (needed (λ f. f) need_of s) (lengths rows heads) s
+    admitted ok = put_admitted (needed (λ f. f) need_of s) (lengths rows heads) s (ap is_ok (sym answer) ∙ ok)
+
     room : is_ok r ≡ true → HasRoom (shape_at s) rows heads
-    room ok = let enough = room_admitted (needed (λ f. f) need_of s) (lengths rows heads) s (ap is_ok (sym answer) ∙ ok) in record { enough_rows = enough.0; enough_heads = enough.1 }
+    room ok = record { enough_rows = (admitted ok).rows; enough_heads = (admitted ok).heads }
 
     tells : is_ok r ≡ true → s' ≡ grown s
     tells ok = told ∙ ap (λ b. cond b (grown s) s) ok
@@ -42,16 +45,16 @@ module _ {K : Type 0} (alike : K → K → Bool) (s s' : Figures) (r : Result (U
     takes ok past window came size held =
         let many : length (past ++ window) ≡ s.puts = length-append past window ∙ came in
         let few = shape_small (shape_at s).top (shape_at s).scales held.levels in
-        let free = put_admitted (needed (λ f. f) need_of s) (lengths rows heads) s (ap is_ok (sym answer) ∙ ok) in
         let last : (shape_at s).top + ((shape_at s).scales - 1) ≡ s.span = omega (arith, held.levels.some) in
         let holds = put_holds alike (shape_at s) (omega (arith, few)) (past ++ window) key (tables rows heads) (room ok) held.tallies in
         let now : HoldsTallies alike (shape_at s) (tables rows' heads') ((past ++ window) ++ key ∷ []) =
-            subst (λ t. HoldsTallies alike (shape_at s) t ((past ++ window) ++ key ∷ [])) (sym (after ok))
-            (subst (λ m. HoldsTallies alike (shape_at s) (put_tables alike m key (shape_at s) (tables rows heads)) ((past ++ window) ++ key ∷ [])) many holds) in
+        subst (λ t. HoldsTallies alike (shape_at s) t ((past ++ window) ++ key ∷ [])) (sym (after ok))
+        (subst (λ m. HoldsTallies alike (shape_at s) (put_tables alike m key (shape_at s) (tables rows heads)) ((past ++ window) ++ key ∷ [])) many holds) in
         subst (λ f. HoldsWindow alike f rows' heads' past (window ++ key ∷ [])) (sym (tells ok))
         (record {
           levels = held.levels;
-          short = omega (arith, free.1, size, length_push window key, ap (λ e. 2 ^ e) last);
+          short = omega (arith, (admitted ok).free, size, length_push window key, ap (λ e. 2 ^ e) last);
+          few = omega (arith, (admitted ok).more, came, length_push window key);
           tallies = subst (HoldsTallies alike (shape_at s) (tables rows' heads')) (append_assoc past window (key ∷ [])) now;
         })
 
@@ -73,20 +76,3 @@ module _ {K : Type 0} (alike : K → K → Bool) (s s' : Figures) (r : Result (U
 
         behind : (drop (needed (λ f. f) need_of s).rows rows' ≡ drop (needed (λ f. f) need_of s).rows rows) × (drop (needed (λ f. f) need_of s).heads heads' ≡ drop (needed (λ f. f) need_of s).heads heads)
         behind = ways (is_ok r) refl
-
-  pub forgot_drops : r ≡ drop_answer s → s' ≡ cond (is_ok r) (shrunk s) s → Dropped (λ f. f) (HoldsWindow alike) s r s'
-  forgot_drops answer told =
-      let tells : is_ok r ≡ true → s' ≡ shrunk s = λ ok. told ∙ ap (λ b. cond b (shrunk s) s) ok in
-      record {
-        answer = answer;
-        tells = tells;
-        leaves = λ ok rows heads past oldest window t.
-            true_drop (λ f. f) (HoldsWindow alike) s s' rows rows heads heads past oldest window (tells ok) t
-            (subst (λ f. HoldsWindow alike f rows heads (past ++ oldest ∷ []) window) (sym (tells ok))
-            (record {
-              levels = t.held.levels;
-              short = omega (arith, t.held.short);
-              tallies = subst (HoldsTallies alike (shape_at s) (tables rows heads)) (sym (append_assoc past (oldest ∷ []) window)) t.held.tallies;
-            }));
-        kept = λ no_ok. told ∙ ap (λ b. cond b (shrunk s) s) no_ok;
-      }

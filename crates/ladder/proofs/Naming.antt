@@ -1,10 +1,8 @@
 -- A list made from the rows of a cover's blocks is right for the window. Assumes nothing, but that alike is an equivalence.
-use Rattle.std.proofs.Common.{◌≡◌, ℕ, ◌+◌, ◌-◌, ◌*◌, ◌^◌, ◌<◌, ◌≤◌, Bool, true, false, cond, ◌||◌, List, [], ◌∷◌, ◌++◌, All, Contains, map, flat_map, length, drop, take, slice_index_or, sum_by, refl, ap, ◌∙◌, sym, subst, mul-le-mul_left, mul_comm, arith}
-use Rattle.std.proofs.lemmas.Bool.{both_ways}
-use Rattle.std.proofs.lemmas.Bool.Decides.{nat_tests}
+use Rattle.std.proofs.Common.{◌≡◌, ℕ, ◌+◌, ◌-◌, ◌*◌, ◌^◌, ◌<◌, ◌≤◌, Bool, true, false, cond, List, [], ◌∷◌, All, map, flat_map, length, drop, take, slice_index_or, refl, ap, ◌∙◌, subst, mul-le-mul_left, mul_comm, arith}
 use Rattle.std.proofs.lemmas.List.{drop-drop, length-drop, take-append-drop}
 use Rattle.std.proofs.lemmas.List.Concat.{flat_map-cons}
-use Rattle.std.proofs.lemmas.List.Elements.{All-append, All-cons, All-head, All-map, All-nil, All-tail}
+use Rattle.std.proofs.lemmas.List.Elements.{All-append, All-head, All-map, All-nil, All-tail}
 use Rattle.std.proofs.lemmas.List.Sums.{count_by-le-length, sum_by-append, sum_by-cons}
 use Rattle.std.proofs.lemmas.List.Folds.{list_any-append}
 use Rattle.keeper.specs.Listing.{among}
@@ -48,9 +46,13 @@ module _ {K : Type 0} (alike : K → K → Bool) where
   -- a part counts no more than the whole
   part_counts : (from many : ℕ) (xs : List K) (k : K) → true_count alike (take many (drop from xs)) k ≤ true_count alike xs k
   part_counts from many xs k =
-      omega (arith,
-      sum_by-append (λ x. cond (alike x k) 1 0) (take from xs) (drop from xs), ap (λ ys. true_count alike ys k) (take-append-drop from xs),
-      sum_by-append (λ x. cond (alike x k) 1 0) (take many (drop from xs)) (drop many (drop from xs)), ap (λ ys. true_count alike ys k) (take-append-drop many (drop from xs)))
+      omega (
+        arith,
+        sum_by-append (λ x. cond (alike x k) 1 0) (take from xs) (drop from xs),
+        ap (λ ys. true_count alike ys k) (take-append-drop from xs),
+        sum_by-append (λ x. cond (alike x k) 1 0) (take many (drop from xs)) (drop many (drop from xs)),
+        ap (λ ys. true_count alike ys k) (take-append-drop many (drop from xs)),
+      )
 
   module _ (self : (x : K) → alike x x ≡ true) (symm : (x y : K) → alike x y ≡ true → alike y x ≡ true) (tran : (x y z : K) → alike x y ≡ true → alike y z ≡ true → alike x z ≡ true)
       (arrivals : List K) (small : length arrivals < 4294967296) (shape : Shape) (n a : ℕ) (come : n ≤ length arrivals) (accuracy : shape.top ≡ a + 3)

@@ -1,15 +1,14 @@
 -- A put keeps the tables true: each slot that a block has begun holds the tally of its newest block. Assumes nothing.
-use Rattle.std.proofs.Common.{◌≡◌, ℕ, ◌+◌, ◌-◌, ◌*◌, ◌^◌, ◌<◌, ◌≤◌, min, Bool, true, false, List, [], ◌∷◌, ◌++◌, ◌==◌, if◌then◌else◌, length, drop, take, refl, ap, ◌∙◌, sym, ⊎_elim, arith}
+use Rattle.std.proofs.Common.{◌≡◌, ◌+◌, ◌*◌, ◌^◌, ◌<◌, ◌≤◌, min, Bool, List, [], ◌∷◌, ◌++◌, ◌==◌, if◌then◌else◌, length, drop, take, ap, ◌∙◌, sym, ⊎_elim, arith}
 use Rattle.std.proofs.lemmas.Bool.{cases_eq, cases_lt}
 use Rattle.std.proofs.lemmas.Bool.Decides.{nat_tests}
-use Rattle.std.proofs.lemmas.Grind.{common_steps}
 use Rattle.std.proofs.lemmas.Nat.{pow_pos}
-use Rattle.std.proofs.lemmas.List.{append-nil, drop-append-le, length-drop, length-take, length_push, take-append-le, take_all}
+use Rattle.std.proofs.lemmas.List.{drop-append-le, length-drop, length-take, length_push, take-append-le, take_all}
 use Rattle.std.proofs.lemmas.List.Sums.{fold-append}
 use Rattle.std.proofs.Math.Seq.{drop-append_seam}
 use Rattle.tally.specs.declared.rows.Head.{Head}
 use Rattle.tally.specs.Slots.{held, room}
-use Rattle.tally.specs.Steps.{empty, run, step, Summary}
+use Rattle.tally.specs.Steps.{empty, run, step}
 use Rattle.tally.proofs.Stepping.{held_stepped}
 use Rattle.layout.specs.Slots.{Shape, rows_at, scale_rows}
 use Rattle.layout.specs.Blocks.{Stretch, first, size, slot_of}
@@ -84,10 +83,10 @@ module _ {K : Type 0} (alike : K → K → Bool) (shape : Shape) (few : shape.sc
   ended b newest complete =
       let some = pow_pos (b.scale + b.level) in
       let apart : (c : Stretch) → IsVisit shape (length arrivals) c → slot_of c ≡ slot_of b → ⊥ =
-          λ c v e.
-          let same = same_turn shape b c newest.there v.there e in
-          let wide : size c ≡ size b = λ i. 2 ^ (same.0 i + same.1 i) in
-          omega (arith, newest.newest c v.there e (omega (arith, v.from, length_push arrivals key)), v.below, wide) in
+      λ c v e.
+      let same = same_turn shape b c newest.there v.there e in
+      let wide : size c ≡ size b = λ i. 2 ^ (same.0 i + same.1 i) in
+      omega (arith, newest.newest c v.there e (omega (arith, v.from, length_push arrivals key)), v.below, wide) in
       let kept = put_leaves alike (length arrivals) key shape t room_for_all b newest.there apart in
       (λ i. held (kept.0 i) (kept.1 i))
       ∙ holds b (newest_before b newest (omega arith))
@@ -96,8 +95,8 @@ module _ {K : Type 0} (alike : K → K → Bool) (shape : Shape) (few : shape.sc
   pub put_holds : HoldsTallies alike shape (put_tables alike (length arrivals) key shape t) (arrivals ++ key ∷ [])
   put_holds b newest = ⊎_elim
       (λ (below : length arrivals < first b + size b). ⊎_elim
-        (λ (now : first b ≡ length arrivals). begun_now b newest.there now)
-        (λ (ne : first b ≡ length arrivals → ⊥). goes_on b newest (omega (arith, newest.begun, length_push arrivals key)) below)
-        (cases_eq (first b) (length arrivals)))
+      (λ (now : first b ≡ length arrivals). begun_now b newest.there now)
+      (λ (ne : first b ≡ length arrivals → ⊥). goes_on b newest (omega (arith, newest.begun, length_push arrivals key)) below)
+      (cases_eq (first b) (length arrivals)))
       (λ (complete : first b + size b ≤ length arrivals). ended b newest complete)
       (cases_lt (length arrivals) (first b + size b))

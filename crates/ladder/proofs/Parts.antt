@@ -1,7 +1,7 @@
 -- A part of a table, and the table with another part in its place. Assumes nothing.
-use Rattle.std.proofs.Common.{◌≡◌, ℕ, ◌+◌, ◌<◌, ◌≤◌, List, ◌++◌, length, get_or, take, drop, ◌⊎◌, ⊎_elim, ap, ◌∙◌, sym, arith}
+use Rattle.std.proofs.Common.{◌≡◌, ℕ, ◌+◌, ◌<◌, ◌≤◌, List, length, get_or, drop, ◌⊎◌, ⊎_elim, ◌∙◌, sym, arith}
 use Rattle.std.proofs.lemmas.Grind.{common_steps}
-use Rattle.std.proofs.lemmas.List.{drop-append-le, get_or_append_left, get_or-append_right, get_or-drop, get_or-take, length-drop, length-take, same_lists}
+use Rattle.std.proofs.lemmas.List.{get_or-drop, get_or-take, same_lists}
 use Rattle.std.proofs.lemmas.Slice.{drop-put_mid}
 use Rattle.std.proofs.Math.Seq.{take-append_seam}
 use Rattle.layout.specs.declared.place.Place.{Place}

@@ -1,5 +1,5 @@
 -- Where there is room for all slots, there is for each. Assumes nothing.
-use Rattle.std.proofs.Common.{◌≡◌, ℕ, List, length, arith}
+use Rattle.std.proofs.Common.{◌≡◌, List, length, arith}
 use Rattle.tally.specs.declared.rows.Head.{Head}
 use Rattle.tally.specs.declared.rows.Row.{Row}
 use Rattle.layout.specs.Slots.{Shape}

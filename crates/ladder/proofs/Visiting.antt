@@ -1,6 +1,6 @@
 -- What one visit does to the tables. Assumes nothing.
-use Rattle.std.proofs.Common.{◌≡◌, ℕ, ◌+◌, ◌<◌, ◌≤◌, ◌⊎◌, Bool, List, length, get_or, drop, set, slice_set, ◌==◌, if◌then◌else◌, refl, ap, ◌∙◌, sym, ⊎_elim, inl, inr, arith, length-set}
-use Rattle.std.proofs.lemmas.Bool.{cases_lt, cases_eq}
+use Rattle.std.proofs.Common.{◌≡◌, ℕ, ◌+◌, ◌<◌, ◌≤◌, Bool, List, length, drop, slice_set, ◌==◌, if◌then◌else◌, refl, ◌∙◌, ⊎_elim, inl, inr, arith, length-set}
+use Rattle.std.proofs.lemmas.Bool.{cases_lt}
 use Rattle.std.proofs.lemmas.List.{get_or-set_other, get_or-set_same, length-take-le, length-drop, drop-set-lt}
 use Rattle.tally.specs.declared.rows.Head.{Head}
 use Rattle.tally.specs.declared.rows.Row.{Row}
@@ -10,7 +10,7 @@ use Rattle.tally.proofs.Over.{length_over}
 use Rattle.layout.specs.declared.place.Place.{Place}
 use Rattle.layout.specs.Slots.{Shape}
 use Rattle.layout.specs.Blocks.{Stretch, first, slot_of}
-use Rattle.layout.specs.Laws.{IsBlock, HasCell}
+use Rattle.layout.specs.Laws.{IsBlock}
 use Rattle.layout.proofs.SlotsOfBlocks.{rows_filled, heads_filled}
 use Rattle.ladder.specs.Tables.{counted_at, empty_head, HasRoom, head_at, Lies, part, rows_after, rows_of, Tables, tables, visited, with_part}
 use Rattle.ladder.proofs.Parts.{length_with_part, part_other, part_same, rest_kept}
@@ -70,12 +70,12 @@ module _ {K : Type 0} (alike : K → K → Bool) (m : ℕ) (key : K) where
         let lies = slot_lies shape t.rows t.heads room in
         part_other p (rows_after alike m key t b) t.rows (lies b isb).rows_there (long t b (lies b isb)) q (lies c isc).rows_there
         (λ x from below. ⊎_elim
-          (λ (lo : x < p.start). inl lo)
-          (λ (hi : p.start ≤ x). ⊎_elim
-            (λ (in_it : x < p.start + p.rows). absurd (apart ((rows_filled shape).apart x b c isb isc (record { from = hi; below = in_it }) (record { from = from; below = below }))))
-            (λ (past : p.start + p.rows ≤ x). inr past)
-            (cases_lt x (p.start + p.rows)))
-          (cases_lt x p.start))
+        (λ (lo : x < p.start). inl lo)
+        (λ (hi : p.start ≤ x). ⊎_elim
+        (λ (in_it : x < p.start + p.rows). absurd (apart ((rows_filled shape).apart x b c isb isc (record { from = hi; below = in_it }) (record { from = from; below = below }))))
+        (λ (past : p.start + p.rows ≤ x). inr past)
+        (cases_lt x (p.start + p.rows)))
+        (cases_lt x p.start))
 
     pub head_there : head_at (visited alike m key t b) c ≡ head_at t c
     unfolding visited

@@ -1,13 +1,13 @@
 -- What an arrival does to the tables: each of its blocks takes its step once. Assumes nothing.
-use Rattle.std.proofs.Common.{◌≡◌, ◌⊎◌, ℕ, zero, suc, ◌+◌, ◌-◌, ◌*◌, ◌<◌, ◌≤◌, Bool, List, [], ◌∷◌, ◌++◌, ◌==◌, if◌then◌else◌, All, length, drop, fold, refl, ap, ◌∙◌, sym, subst, ⊎_elim, inl, inr, arith}
+use Rattle.std.proofs.Common.{◌≡◌, ◌⊎◌, ℕ, zero, suc, ◌+◌, ◌*◌, ◌<◌, ◌≤◌, Bool, List, [], ◌∷◌, ◌++◌, ◌==◌, if◌then◌else◌, All, length, drop, fold, refl, ap, ◌∙◌, sym, subst, ⊎_elim, inl, inr, arith}
 use Rattle.std.proofs.lemmas.Bool.{cases_eq}
-use Rattle.std.proofs.lemmas.List.Elements.{All-nil, All-cons, All-head, All-tail, All-append, All-weaker}
+use Rattle.std.proofs.lemmas.List.Elements.{All-nil, All-cons, All-head, All-tail, All-append}
 use Rattle.tally.specs.declared.rows.Head.{Head}
 use Rattle.tally.specs.declared.rows.Row.{Row}
 use Rattle.tally.specs.Slots.{head_of, over, stepped}
 use Rattle.tally.specs.Steps.{Summary}
 use Rattle.layout.specs.Slots.{Shape, scale_heads, scale_rows}
-use Rattle.layout.specs.Blocks.{Stretch, block_of, blocks_from, first, scales_from, size, slot_of, visits_of}
+use Rattle.layout.specs.Blocks.{Stretch, block_of, blocks_from, first, scales_from, slot_of, visits_of}
 use Rattle.layout.specs.Laws.{IsBlock, IsVisit}
 use Rattle.layout.proofs.BlocksOfArrivals.{one_of_level, visits_right}
 use Rattle.layout.proofs.SlotsOfBlocks.{rows_filled, heads_filled, same_turn}
@@ -62,11 +62,11 @@ module _ (top m i j : ℕ) where
   once_of_scales zero h lo hi level = absurd (omega arith)
   once_of_scales (suc n) h lo hi level = ⊎_elim
       (λ (e : h ≡ i). once_left (block_of top m i j) (blocks_from top m h 0 (top + 1)) (scales_from top m (h + 1) n)
-        (subst (λ s. IsOnce (block_of top m i j) (blocks_from top m s 0 (top + 1))) (sym e) (once_of_levels (top + 1) 0 (omega arith) (omega arith)))
-        (later_scales n (h + 1) (omega arith)))
+      (subst (λ s. IsOnce (block_of top m i j) (blocks_from top m s 0 (top + 1))) (sym e) (once_of_levels (top + 1) 0 (omega arith) (omega arith)))
+      (later_scales n (h + 1) (omega arith)))
       (λ (ne : h ≡ i → ⊥). once_right (block_of top m i j) (blocks_from top m h 0 (top + 1)) (scales_from top m (h + 1) n)
-        (other_scale (top + 1) h 0 ne)
-        (once_of_scales n (h + 1) (omega arith) (omega arith) level))
+      (other_scale (top + 1) h 0 ne)
+      (once_of_scales n (h + 1) (omega arith) (omega arith) level))
       (cases_eq h i)
 
 once_visited : (shape : Shape) (m : ℕ) (b : Stretch) → IsVisit shape m b → IsOnce b (visits_of shape m)
@@ -104,18 +104,18 @@ module _ {K : Type 0} (alike : K → K → Bool) (m : ℕ) (key : K) (shape : Sh
       let lies = slot_lies shape t.rows t.heads room b isb in
       ⊎_elim
       (λ (here : (c ≡ b) × All (Elsewhere b) cs).
-        let apart : All (λ d. slot_of d ≡ slot_of b → ⊥) cs = λ k d lo. elsewhere_apart shape b _ isb (rest k d lo) (here.1 k d lo) in
-        let after = others_keep cs (visited alike m key t b) (room_after t room b isb) b isb rest apart in
-        subst (λ d. (rows_of (fold (visited alike m key) (visited alike m key t d) cs) b ≡ rows_after alike m key t b) × (head_at (fold (visited alike m key) (visited alike m key t d) cs) b ≡ head_of (counted_at alike m key t b))) (sym here.0)
-        (after.0 ∙ rows_here alike m key t b lies, after.1 ∙ head_here alike m key t b lies))
+      let apart : All (λ d. slot_of d ≡ slot_of b → ⊥) cs = λ k d lo. elsewhere_apart shape b _ isb (rest k d lo) (here.1 k d lo) in
+      let after = others_keep cs (visited alike m key t b) (room_after t room b isb) b isb rest apart in
+      subst (λ d. (rows_of (fold (visited alike m key) (visited alike m key t d) cs) b ≡ rows_after alike m key t b) × (head_at (fold (visited alike m key) (visited alike m key t d) cs) b ≡ head_of (counted_at alike m key t b))) (sym here.0)
+      (after.0 ∙ rows_here alike m key t b lies, after.1 ∙ head_here alike m key t b lies))
       (λ (later : Elsewhere b c × IsOnce b cs).
-        let apart = elsewhere_apart shape b c isb isc later.0 in
-        let same_rows = rows_there alike m key shape t room c b isc isb apart in
-        let same_head = head_there alike m key shape t room c b isc isb apart in
-        let after = once_takes cs (visited alike m key t c) (room_after t room c isc) b isb rest later.1 in
-        let taken : Stretch → List (Row K) → Head → Summary K = λ d rows head. stepped alike rows (if first d == m then empty_head else head) key in
-        let same : counted_at alike m key (visited alike m key t c) b ≡ counted_at alike m key t b = λ i. taken b (same_rows i) (same_head i) in
-        (after.0 ∙ (λ i. over (same i).rows (same_rows i)), after.1 ∙ ap head_of same))
+      let apart = elsewhere_apart shape b c isb isc later.0 in
+      let same_rows = rows_there alike m key shape t room c b isc isb apart in
+      let same_head = head_there alike m key shape t room c b isc isb apart in
+      let after = once_takes cs (visited alike m key t c) (room_after t room c isc) b isb rest later.1 in
+      let taken : Stretch → List (Row K) → Head → Summary K = λ d rows head. stepped alike rows (if first d == m then empty_head else head) key in
+      let same : counted_at alike m key (visited alike m key t c) b ≡ counted_at alike m key t b = λ i. taken b (same_rows i) (same_head i) in
+      (after.0 ∙ (λ i. over (same i).rows (same_rows i)), after.1 ∙ ap head_of same))
       once
 
   lengths_kept : (bs : List Stretch) (t : Tables K) → HasRoom shape t.rows t.heads → All (IsBlock shape) bs
@@ -135,8 +135,7 @@ module _ {K : Type 0} (alike : K → K → Bool) (m : ℕ) (key : K) (shape : Sh
   behind_kept (b ∷ bs) t room are =
       let isb = All-head (IsBlock shape) b bs are in
       let lies = slot_lies shape t.rows t.heads room b isb in
-      let again = behind_kept bs (visited alike m key t b) (room_after t room b isb) (All-tail (IsBlock shape) b bs are) in
-      (
+      let again = behind_kept bs (visited alike m key t b) (room_after t room b isb) (All-tail (IsBlock shape) b bs are) in (
         again.0 ∙ rows_behind alike m key t b lies (shape.scales * scale_rows shape.top) ((rows_filled shape).within b isb),
         again.1 ∙ heads_behind alike m key t b lies (shape.scales * scale_heads shape.top) (omega (arith, (heads_filled shape).within b isb)),
       )

@@ -1,5 +1,6 @@
 pub mod Inside
 pub mod Ladders
+pub mod Sketches
 pub mod Sums
 pub mod Tables
 pub mod Truth

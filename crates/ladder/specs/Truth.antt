@@ -1,6 +1,6 @@
 -- When tables are true to what came: each slot holds the tally of its newest block. Assumes nothing.
-use Rattle.std.specs.Prelude.{◌≡◌, ℕ, ◌<◌, ◌≤◌, Bool, List, ◌++◌, length, take, drop}
-use Rattle.keeper.specs.Figures.{Figures}
+use Rattle.std.specs.Prelude.{◌≡◌, ℕ, ◌+◌, ◌<◌, ◌≤◌, Bool, List, ◌++◌, length, take, drop}
+use Rattle.keeper.specs.Figures.{Figures, most_puts}
 use Rattle.tally.specs.declared.rows.Head.{Head}
 use Rattle.tally.specs.declared.rows.Row.{Row}
 use Rattle.tally.specs.Steps.{Summary, run}
@@ -32,4 +32,5 @@ HoldsTallies alike shape t arrivals = (b : Stretch) → IsNewest shape (length a
 pub record HoldsWindow {K : Type 0} (alike : K → K → Bool) (s : Figures) (rows : List (Row K)) (heads : List Head) (past window : List K) : Type 0 where
   pub levels : IsShape (shape_of s.accuracy s.span).top (shape_of s.accuracy s.span).scales
   pub short : length window ≤ longest (shape_of s.accuracy s.span)
+  pub few : length past + length window ≤ most_puts
   pub tallies : HoldsTallies alike (shape_of s.accuracy s.span) (tables rows heads) (past ++ window)

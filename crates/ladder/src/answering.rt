@@ -1,17 +1,18 @@
 //! What the ladder does at each call. These stand apart from the trait's methods, so that what a keeper owes of its answers
 //! is owed at one return.
 
-ghost use Rattle.std.specs.Prelude.{◌≡◌, ◌^◌, ◌<◌, is_ok, if◌then◌else◌};
+ghost use Rattle.std.specs.Prelude.{◌≡◌, ◌^◌, ◌<◌, true, false, length, is_ok, if◌then◌else◌};
 ghost use Rattle.keeper.specs.Figures.{grown, shrunk};
-ghost use Rattle.keeper.specs.Refusals.{count_answer, drop_answer, put_answer};
+ghost use Rattle.keeper.specs.Refusals.{count_answer, drop_answer, list_answer, put_answer};
 ghost use Rattle.keeper.specs.Tables.{lengths};
-ghost use Rattle.ladder.specs.Ladders.{bracket, need_of, shape_at, stored};
+ghost use Rattle.tally.specs.Slots.{over};
+ghost use Rattle.ladder.specs.Ladders.{bracket, listing, need_of, shape_at, stored};
 ghost use Rattle.ladder.specs.Tables.{HasRoom, tables};
 
 use crate::figures::Ladder;
 use crate::putting::visit_all;
 use crate::sketch::Sketch;
-use keeper::{Lengths, Refusal, admit_drop, admit_put, admit_tables};
+use keeper::{Entry, Lengths, Refusal, admit_drop, admit_list, admit_put, admit_tables, list_from};
 use likeness::Likeness;
 use tally::{Head, Row};
 
@@ -86,5 +87,22 @@ impl Ladder {
     {
         admit_tables(self, Lengths::of(rows, heads))?;
         Ok(self.sketch(rows, heads).bracket(key))
+    }
+
+    // The answer of a list, and its entries.
+    pub(crate) fn answer_list<K: Likeness>(
+        &self,
+        rows: &[Row<K>],
+        heads: &[Head],
+        threshold: u32,
+        list: &mut [Entry<K>],
+    ) -> Result<usize, Refusal>
+        ensures answer { result ≡ list_answer (need_of self.now.accuracy self.now.span) (lengths rows.now heads.now) self.now threshold
+            (length list.old) (length (listing K.alike self.now rows.now heads.now threshold)) }
+        ensures written { is_ok result ≡ true → list.new ≡ over (listing K.alike self.now rows.now heads.now threshold) list.old }
+        ensures kept { is_ok result ≡ false → list.new ≡ list.old }
+    {
+        admit_list(self, Lengths::of(rows, heads), threshold)?;
+        list_from(&self.sketch(rows, heads), threshold, list)
     }
 }

@@ -2,8 +2,10 @@
 #![tactic(auto)]
 
 mod answering;
+mod asking;
 mod figures;
 mod keeping;
+mod keys;
 mod putting;
 mod sketch;
 

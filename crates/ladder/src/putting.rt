@@ -10,18 +10,20 @@ use tally::{EMPTY, Head, Row, step};
 
 // An arrival is counted in the slot of a block that it falls into. If it is the block's first, what the slot held of an
 // earlier block goes first.
-fn visit<K: Likeness>(
-    rows: &mut [Row<K>],
-    heads: &mut [Head],
-    block: &Block,
-    arrival: u32,
-    key: K,
-)
+fn visit<K: Likeness>(rows: &mut [Row<K>], heads: &mut [Head], block: &Block, arrival: u32, key: K)
     requires { Lies (slot_of block.now) rows.old heads.old }
     ensures { tables rows.new heads.new ≡ visited K.alike arrival key (tables rows.old heads.old) block.now }
 {
-    let Place { start, rows: count, head } = block.place();
-    let before = if block.first() == arrival { EMPTY } else { heads[head] };
+    let Place {
+        start,
+        rows: count,
+        head,
+    } = block.place();
+    let before = if block.first() == arrival {
+        EMPTY
+    } else {
+        heads[head]
+    };
     heads[head] = step(&mut rows[start..start + count], before, key);
 }
 

@@ -30,7 +30,7 @@ module _ {K : Type 0} (s s' : Figures) (r : Result (Unit {0}) Refusal) where
             let free = put_admitted (needed (λ f. f) need_of s) (lengths rows heads) s (ap is_ok (sym answer) ∙ ok) in
             true_put (λ f. f) HoldsWindow s s' rows rows' heads heads past window key (tells ok) t
             ((λ i. window_of (tells ok i) (rows_are ok i))
-            ∙ keys_put rows rounds s.puts s.size (entered key) (omega (arith, t.size, t.puts)) free.1 free.0
+            ∙ keys_put rows rounds s.puts s.size (entered key) (omega (arith, t.size, t.puts)) free.free free.rows
             ∙ ap (λ keys. keys ++ key ∷ []) t.held);
         kept = λ no. (told ∙ ap (λ b. cond b (grown s) s) no, written ∙ ap (λ b. cond b (stored s rows key) rows) no, refl);
         rows_rest = subst (λ table. drop rounds table ≡ drop rounds rows) (sym written)

@@ -31,8 +31,8 @@ impl<'a, K: Likeness> Slot<'a, K> {
         (self.head.used as usize).min(self.room())
     }
 
-    // The rows in use.
-    fn live(&self) -> &'a [Row<K>]
+    /// The rows in use, oldest first.
+    pub fn live(&self) -> &'a [Row<K>]
         ensures { result.now ≡ (held self.now.rows.now self.now.head).rows }
     {
         &self.rows[..self.in_use()]

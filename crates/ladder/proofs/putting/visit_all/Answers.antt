@@ -1,7 +1,6 @@
-use Rattle.std.proofs.Common.{rules, ◌≡◌, ◌∷◌, fold, All, sym, ap, ◌∙◌, subst, arith}
+use Rattle.std.proofs.Common.{rules, All, subst}
 use Rattle.std.proofs.lemmas.List.Elements.{All-head, All-tail}
 use Rattle.layout.specs.Laws.{IsVisit}
-use Rattle.ladder.specs.Tables.{tables, visited}
 use Rattle.ladder.proofs.Rooms.{slot_lies, room_kept}
 use Rattle.ladder.proofs.putting.visit_all.Goals as goal
 

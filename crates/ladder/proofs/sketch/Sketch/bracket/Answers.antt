@@ -1,9 +1,8 @@
-use Rattle.std.proofs.Common.{rules, ◌≡◌, All, ◌∷◌, ◌+◌, ap, ◌∙◌, subst, arith}
+use Rattle.std.proofs.Common.{rules, All, ◌+◌, ap, ◌∙◌, subst, arith}
 use Rattle.std.proofs.lemmas.List.Elements.{All-head, All-tail}
 use Rattle.layout.specs.Laws.{IsBlock}
 use Rattle.layout.specs.Covers.{cover_of}
 use Rattle.tally.specs.Steps.{count_in}
-use Rattle.tally.specs.Slots.{held}
 use Rattle.ladder.specs.Sums.{capped, counted, lost}
 use Rattle.ladder.specs.Tables.{tables, tally_at}
 use Rattle.ladder.proofs.Adding.{block_added, bracket_added}

@@ -1,0 +1,16 @@
+use Rattle.ladder.proofs.Held.{bracket_alike, bracket_is_right}
+use Rattle.ladder.proofs.keeping.LadderKeeper.count.Goals as goal
+
+pub returns : goal.returns
+returns g c =
+    let alike = g.K.Likeness.alike in
+    let laws = g.met.K.Likeness in
+    let s = c.args.self.now in
+    let rows = c.args.rows.now in
+    let heads = c.args.heads.now in
+    let key = c.args.key.now in
+    record {
+      answer = c.answer_count.ensures;
+      right = λ past window t. bracket_is_right alike s rows heads past window t.held t.size t.puts laws.reflexive laws.symmetric laws.transitive key;
+      same = λ past window t other near. bracket_alike alike s rows heads past window t.held t.size t.puts laws.reflexive laws.symmetric laws.transitive key other near;
+    }

@@ -1,0 +1,20 @@
+use Rattle.keeper.proofs.Listings.{listed_counts}
+use Rattle.ladder.specs.Ladders.{bracket}
+use Rattle.ladder.proofs.Held.{listing_is_right}
+use Rattle.ladder.proofs.keeping.LadderKeeper.list.Goals as goal
+
+pub returns : goal.returns
+returns g c =
+    let alike = g.K.Likeness.alike in
+    let laws = g.met.K.Likeness in
+    let s = c.args.self.now in
+    let rows = c.args.rows.now in
+    let heads = c.args.heads.now in
+    let threshold = c.args.threshold in
+    record {
+      answer = c.answer_list.ensures.answer;
+      written = c.answer_list.ensures.written;
+      kept = c.answer_list.ensures.kept;
+      counts = listed_counts alike (bracket alike s rows heads) threshold _;
+      right = λ asked past window t. listing_is_right alike s rows heads past window t.held t.size t.puts laws.reflexive laws.symmetric laws.transitive threshold asked;
+    }
