@@ -1,0 +1,6 @@
+//! Whole traces on the ladder.
+#![tactic(auto)]
+
+mod run;
+
+pub use run::run_ladder_trace;
