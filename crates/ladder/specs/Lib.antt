@@ -1,3 +1,4 @@
+pub mod Cases
 pub mod Inside
 pub mod Ladders
 pub mod Sketches

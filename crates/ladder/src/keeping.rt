@@ -2,7 +2,8 @@
 
 ghost use Rattle.std.specs.Prelude.{◌≡◌, ◌^◌, ◌≤◌, is_ok, if◌then◌else◌, true};
 ghost use Rattle.keeper.specs.Figures.{most_puts};
-ghost use Rattle.keeper.specs.Rules.{Put};
+ghost use Rattle.keeper.specs.Rules.{Counted, Listed, Put};
+ghost use Rattle.ladder.specs.Cases.{CountCases, ListCases};
 ghost use Rattle.ladder.specs.Ladders.{bracket, listing, need_of, shape_at, stored};
 ghost use Rattle.ladder.specs.Tables.{tables, TakesSteps};
 ghost use Rattle.ladder.specs.Truth.{HoldsWindow};
@@ -71,7 +72,10 @@ impl<K: Likeness> Keeper<K> for Ladder {
         self.forget()
     }
 
-    fn count(&self, rows: &[Row<K>], heads: &[Head], key: &K) -> Result<(u32, u32), Refusal> {
+    fn count(&self, rows: &[Row<K>], heads: &[Head], key: &K) -> Result<(u32, u32), Refusal>
+        ensures keeper { Counted (λ s. s) (HoldsWindow K.Likeness.alike) need_of K.Likeness.alike (bracket K.Likeness.alike) self.now rows.now heads.now key.now result }
+        ensures worked { CountCases }
+    {
         self.answer_count(rows, heads, key)
     }
 
@@ -81,7 +85,11 @@ impl<K: Likeness> Keeper<K> for Ladder {
         heads: &[Head],
         threshold: u32,
         list: &mut [Entry<K>],
-    ) -> Result<usize, Refusal> {
+    ) -> Result<usize, Refusal>
+        ensures keeper { Listed (λ s. s) (HoldsWindow K.Likeness.alike) need_of K.Likeness.alike (bracket K.Likeness.alike) (listing K.Likeness.alike)
+            self.now rows.now heads.now threshold list.old result list.new }
+        ensures worked { ListCases }
+    {
         self.answer_list(rows, heads, threshold, list)
     }
 }

@@ -10,3 +10,6 @@ mod putting;
 mod sketch;
 
 pub use figures::Ladder;
+
+#[cfg(test)]
+mod tests;

@@ -3,8 +3,8 @@ use Rattle.ladder.specs.Ladders.{bracket}
 use Rattle.ladder.proofs.Held.{listing_is_right}
 use Rattle.ladder.proofs.keeping.LadderKeeper.list.Goals as goal
 
-pub returns : goal.returns
-returns g c =
+pub returns-clause-keeper : goal.returns-clause-keeper
+returns-clause-keeper g c =
     let alike = g.K.Likeness.alike in
     let laws = g.met.K.Likeness in
     let s = c.args.self.now in
