@@ -1,5 +1,5 @@
 -- The numbers of a keeper. Assumes nothing.
-use Rattle.std.specs.Prelude.{ℕ, ◌+◌, ◌-◌}
+use Rattle.std.specs.Prelude.{ℕ, ◌+◌, ◌-◌, ◌^◌, ◌≤◌}
 
 -- what every keeper tells of itself: its accuracy and span, the puts that it has accepted, and the keys in its window now
 pub record Figures : Type 0 where
@@ -23,3 +23,9 @@ grown f = record { accuracy = f.accuracy; span = f.span; puts = f.puts + 1; size
 -- after a drop that was accepted
 abbrev pub shrunk : Figures → Figures
 shrunk f = record { accuracy = f.accuracy; span = f.span; puts = f.puts; size = f.size - 1 }
+
+-- the window is no longer than what came, nor than the span allows
+pub record InRange (f : Figures) : Type 0 where
+  pub came : f.size ≤ f.puts
+  pub counted : f.puts ≤ most_puts
+  pub stored : f.size ≤ 2 ^ f.span

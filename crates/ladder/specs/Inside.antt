@@ -1,6 +1,6 @@
 -- What a ladder is made of. Assumes nothing.
-use Rattle.std.specs.Prelude.{◌≡◌, ◌^◌, ◌≤◌}
-use Rattle.keeper.specs.Figures.{Figures, most_puts}
+use Rattle.std.specs.Prelude.{◌≡◌}
+use Rattle.keeper.specs.Figures.{Figures, InRange}
 use Rattle.layout.specs.Inside.{IsShape}
 use Rattle.layout.specs.Slots.{shape_of}
 use Rattle.ladder.specs.declared.figures.Ladder.TheInside.{Inside}
@@ -9,10 +9,8 @@ use Rattle.ladder.specs.declared.figures.Ladder.TheInside.{Inside}
 abbrev pub figures_in : Inside → Figures
 figures_in l = record { accuracy = l.setting.accuracy; span = l.setting.span; puts = l.puts; size = l.size }
 
--- the window is no longer than what came, nor than the longest; the layout is the setting's
+-- its figures are in range, and the layout is the setting's
 pub record IsInRange (l : Inside) : Type 0 where
-  pub came : l.size ≤ l.puts
-  pub counted : l.puts ≤ most_puts
-  pub stored : l.size ≤ 2 ^ l.setting.span
+  pub figures : InRange (figures_in l)
   pub shape : l.layout ≡ shape_of l.setting.accuracy l.setting.span
   pub levels : IsShape l.layout.top l.layout.scales

@@ -14,13 +14,12 @@ pub struct Ring {
 }
 
 impl Model for Ring {
-    ghost use Rattle.keeper.specs.Figures.{Figures};
+    ghost use Rattle.keeper.specs.Figures.{Figures, InRange};
+    ghost use Rattle.ring.specs.Inside.{figures_in};
 
     ghost Value = { Figures };
 
-    ghost use Rattle.ring.specs.Inside.{figures_in, IsInRange};
-
     ghost view = { figures_in };
 
-    ghost invariant = { IsInRange };
+    ghost invariant = { λ r. InRange (figures_in r) };
 }

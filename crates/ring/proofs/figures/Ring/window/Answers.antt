@@ -1,14 +1,14 @@
 use Rattle.std.proofs.Common.{◌≡◌, ◌-◌, ◌^◌, ◌≤◌, ◌++◌, map, take, drop, refl, ap, subst, ◌∙◌, arith}
 use Rattle.std.proofs.lemmas.Nat.{pow_pos}
 use Rattle.std.proofs.lemmas.List.{append-nil}
-use Rattle.keeper.specs.Figures.{Figures}
+use Rattle.keeper.specs.Figures.{Figures, InRange}
 use Rattle.ring.specs.declared.figures.Ring.TheInside.{Inside}
-use Rattle.ring.specs.Inside.{figures_in, IsInRange}
+use Rattle.ring.specs.Inside.{figures_in}
 use Rattle.ring.proofs.Rounds.{window_once, window_twice}
 use Rattle.ring.proofs.figures.Ring.window.Goals as goal
 
 -- the figures keep the range that the fields do
-range : (r : Inside) (f : Figures) → figures_in r ≡ f → IsInRange r → (f.size ≤ f.puts) × (f.size ≤ 2 ^ f.span) × (r.size ≡ f.size)
+range : (r : Inside) (f : Figures) → figures_in r ≡ f → InRange (figures_in r) → (f.size ≤ f.puts) × (f.size ≤ 2 ^ f.span) × (r.size ≡ f.size)
 range r f same fits = subst (λ s. (s.size ≤ s.puts) × (s.size ≤ 2 ^ s.span) × (r.size ≡ s.size)) same (fits.came, fits.stored, refl)
 
 pub returns-then-size-end : goal.returns-then-size-end
