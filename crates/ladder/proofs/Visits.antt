@@ -1,5 +1,5 @@
 -- What an arrival does to the tables: each of its blocks takes its step once. Assumes nothing.
-use Rattle.std.proofs.Common.{◌≡◌, ◌⊎◌, ℕ, zero, suc, ◌+◌, ◌*◌, ◌<◌, ◌≤◌, Bool, List, [], ◌∷◌, ◌++◌, ◌==◌, if◌then◌else◌, All, length, drop, fold, refl, ap, ◌∙◌, sym, subst, ⊎_elim, inl, inr, arith}
+use Rattle.std.proofs.Common.{◌≡◌, ◌⊎◌, ℕ, zero, suc, ◌+◌, ◌*◌, ◌<◌, ◌≤◌, Bool, List, [], ◌∷◌, ◌++◌, ◌==◌, if◌then◌else◌, All, drop, fold, refl, ap, ◌∙◌, sym, subst, ⊎_elim, inl, inr, arith}
 use Rattle.std.proofs.lemmas.Bool.{cases_eq}
 use Rattle.std.proofs.lemmas.List.Elements.{All-nil, All-cons, All-head, All-tail, All-append}
 use Rattle.tally.specs.declared.rows.Head.{Head}
@@ -118,15 +118,6 @@ module _ {K : Type 0} (alike : K → K → Bool) (m : ℕ) (key : K) (shape : Sh
       (after.0 ∙ (λ i. over (same i).rows (same_rows i)), after.1 ∙ ap head_of same))
       once
 
-  lengths_kept : (bs : List Stretch) (t : Tables K) → HasRoom shape t.rows t.heads → All (IsBlock shape) bs
-      → (length (fold (visited alike m key) t bs).rows ≡ length t.rows) × (length (fold (visited alike m key) t bs).heads ≡ length t.heads)
-  lengths_kept [] t room are = (refl, refl)
-  lengths_kept (b ∷ bs) t room are =
-      let isb = All-head (IsBlock shape) b bs are in
-      let lies = slot_lies shape t.rows t.heads room b isb in
-      let again = lengths_kept bs (visited alike m key t b) (room_after t room b isb) (All-tail (IsBlock shape) b bs are) in
-      (again.0 ∙ rows_long alike m key t b lies, again.1 ∙ heads_long alike m key t b lies)
-
   -- what lies behind all slots
   behind_kept : (bs : List Stretch) (t : Tables K) → HasRoom shape t.rows t.heads → All (IsBlock shape) bs
       → (drop (shape.scales * scale_rows shape.top) (fold (visited alike m key) t bs).rows ≡ drop (shape.scales * scale_rows shape.top) t.rows)
@@ -149,9 +140,6 @@ module _ {K : Type 0} (alike : K → K → Bool) (m : ℕ) (key : K) (shape : Sh
 
     pub put_leaves : (b : Stretch) → IsBlock shape b → ((c : Stretch) → IsVisit shape m c → slot_of c ≡ slot_of b → ⊥) → (rows_of (put_tables alike m key shape t) b ≡ rows_of t b) × (head_at (put_tables alike m key shape t) b ≡ head_at t b)
     put_leaves b is apart = others_keep (visits_of shape m) t room b is visits_are (λ k d lo. apart _ (visits_right shape m k d lo))
-
-    pub put_long : (length (put_tables alike m key shape t).rows ≡ length t.rows) × (length (put_tables alike m key shape t).heads ≡ length t.heads)
-    put_long = lengths_kept (visits_of shape m) t room visits_are
 
     pub put_behind : (drop (shape.scales * scale_rows shape.top) (put_tables alike m key shape t).rows ≡ drop (shape.scales * scale_rows shape.top) t.rows)
         × (drop (shape.scales * scale_heads shape.top) (put_tables alike m key shape t).heads ≡ drop (shape.scales * scale_heads shape.top) t.heads)

@@ -36,6 +36,7 @@ pub record HasRoom {K : Type 0} (shape : Shape) (rows : List (Row K)) (heads : L
   pub enough_heads : shape.scales * scale_heads shape.top ≤ length heads
 
 module _ {K : Type 0} where
+  -- both of them
   abbrev pub tables : List (Row K) → List Head → Tables K
   tables rows heads = record { rows = rows; heads = heads }
 

@@ -1,9 +1,8 @@
 -- A trace on a ladder answers and ends as the keys that came say. Assumes nothing.
-use Rattle.std.proofs.Common.{◌≡◌, ℕ, ◌+◌, Bool, false, List, ◌++◌, length, map, refl, ap, ◌∙◌, sym, subst}
+use Rattle.std.proofs.Common.{ℕ, Bool, List, ◌++◌, ◌∙◌, subst}
 use Rattle.tally.specs.declared.rows.Head.{Head}
 use Rattle.tally.specs.declared.rows.Row.{Row}
 use Rattle.keeper.specs.declared.entry.Entry.{Entry}
-use Rattle.keeper.specs.Figures.{Figures}
 use Rattle.keeper.specs.Tables.{lengths}
 use Rattle.layout.specs.Slots.{shape_of}
 use Rattle.ladder.specs.declared.figures.Ladder.{Ladder}

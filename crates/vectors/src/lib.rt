@@ -1,5 +1,5 @@
-//! Tests of fixed windows and of traces over the ring. They stand in a crate of their own, since neither of the crates that they
-//! test knows the ring.
+//! Tests of fixed windows and of traces over the ring and the ladder. They stand in a crate of their own, since none of the crates
+//! that they test knows both a window and a keeper.
 #![tactic(auto)]
 
 #[cfg(test)]
