@@ -78,7 +78,7 @@ module _ {K : Type 0} (alike : K → K → Bool) (s : Figures) (rows : List (Row
   covered i d lo =
       let cover = cover_is (shape_at s) s.puts s.size held.levels fits in
       let b = slice_index_or (cover_of (shape_at s) s.puts s.size) i d in
-      held.tallies b (subst (λ m. IsNewest (shape_at s) m b) (sym came) (newest_can (shape_at s) s.puts s.size b (cover.there i d lo) (cover.answer i d lo)))
+      (held.tallies b (subst (λ m. IsNewest (shape_at s) m b) (sym came) (newest_can (shape_at s) s.puts s.size b (cover.there i d lo) (cover.answer i d lo)))).0
 
   pub bracket_held : (k : K) → bracket alike s rows heads k ≡ bracket_of alike (tally_of alike arrivals) (shape_at s) s.puts s.size k
   bracket_held k = bracket_by_both alike (tally_at (tables rows heads)) (tally_of alike arrivals) (shape_at s) s.puts s.size covered k

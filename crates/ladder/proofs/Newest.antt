@@ -7,15 +7,15 @@ use Rattle.std.proofs.lemmas.List.{drop-append-le, length-drop, length-take, len
 use Rattle.std.proofs.lemmas.List.Sums.{fold-append}
 use Rattle.std.proofs.Math.Seq.{drop-append_seam}
 use Rattle.tally.specs.declared.rows.Head.{Head}
-use Rattle.tally.specs.Slots.{held, room}
+use Rattle.tally.specs.Slots.{head_of, held, room}
 use Rattle.tally.specs.Steps.{empty, run, step}
 use Rattle.tally.proofs.Stepping.{held_stepped}
 use Rattle.layout.specs.Slots.{Shape, rows_at, scale_rows}
 use Rattle.layout.specs.Blocks.{Stretch, first, size, slot_of}
 use Rattle.layout.specs.Laws.{IsBlock, IsVisit}
 use Rattle.layout.proofs.SlotsOfBlocks.{rows_filled, same_turn}
-use Rattle.ladder.specs.Tables.{counted_at, empty_head, HasRoom, head_at, put_tables, rows_of, Tables, tally_at}
-use Rattle.ladder.specs.Truth.{HoldsTallies, IsNewest, keys_of, tally_of}
+use Rattle.ladder.specs.Tables.{counted_at, empty_head, HasRoom, head_at, put_tables, rows_of, Tables}
+use Rattle.ladder.specs.Truth.{Holds, HoldsTallies, IsNewest, keys_of, tally_of}
 use Rattle.ladder.proofs.Rooms.{slot_lies}
 use Rattle.ladder.proofs.Visits.{put_leaves, put_steps}
 
@@ -57,29 +57,30 @@ module _ {K : Type 0} (alike : K → K → Bool) (shape : Shape) (few : shape.sc
         ∙ ap (λ s. step alike (rows_at b.top b.level) s key) told
         ∙ sym (fold-append (step alike (rows_at b.top b.level)) empty keys (key ∷ []))
 
-    visited_tally : first b ≤ length arrivals → length arrivals < first b + size b → tally_at (put_tables alike (length arrivals) key shape t) b ≡ counted_at alike (length arrivals) key t b
-    visited_tally from below =
+    -- the slot of a block that the arrival falls into, if the step makes the right tally
+    visited_holds : first b ≤ length arrivals → length arrivals < first b + size b → counted_at alike (length arrivals) key t b ≡ tally_of alike (arrivals ++ key ∷ []) b
+        → Holds (put_tables alike (length arrivals) key shape t) b (tally_of alike (arrivals ++ key ∷ []) b)
+    visited_holds from below right =
         let stepped = put_steps alike (length arrivals) key shape t room_for_all b (record { there = is; from = from; below = below }) in
-        held_stepped alike (rows_of t b) _ (if first b == length arrivals then empty_head else head_at t b) _ key stepped.0 stepped.1
+        (held_stepped alike (rows_of t b) _ (if first b == length arrivals then empty_head else head_at t b) _ key stepped.0 stepped.1 ∙ right, stepped.1 ∙ ap head_of right)
 
   -- the block begins with this arrival
-  begun_now : (b : Stretch) → IsBlock shape b → first b ≡ length arrivals → tally_at (put_tables alike (length arrivals) key shape t) b ≡ tally_of alike (arrivals ++ key ∷ []) b
+  begun_now : (b : Stretch) → IsBlock shape b → first b ≡ length arrivals → Holds (put_tables alike (length arrivals) key shape t) b (tally_of alike (arrivals ++ key ∷ []) b)
   begun_now b is now =
       let none : min 0 (room (rows_of t b)) ≡ 0 = omega arith in
       let cleared : held (rows_of t b) empty_head ≡ empty = λ i. record { rows = take (none i) (rows_of t b); lost = 0 } in
-      visited_tally b is (omega arith) (omega (arith, pow_pos (b.scale + b.level)))
-      ∙ counted_is b is empty_head [] (grind (arith, nat_tests)) cleared
-      ∙ ap (run alike (rows_at b.top b.level)) (sym (keys_begun arrivals key b now))
+      visited_holds b is (omega arith) (omega (arith, pow_pos (b.scale + b.level)))
+      (counted_is b is empty_head [] (grind (arith, nat_tests)) cleared ∙ ap (run alike (rows_at b.top b.level)) (sym (keys_begun arrivals key b now)))
 
   -- it goes on with it
-  goes_on : (b : Stretch) → IsNewest shape (length (arrivals ++ key ∷ [])) b → first b < length arrivals → length arrivals < first b + size b → tally_at (put_tables alike (length arrivals) key shape t) b ≡ tally_of alike (arrivals ++ key ∷ []) b
+  goes_on : (b : Stretch) → IsNewest shape (length (arrivals ++ key ∷ [])) b → first b < length arrivals → length arrivals < first b + size b → Holds (put_tables alike (length arrivals) key shape t) b (tally_of alike (arrivals ++ key ∷ []) b)
   goes_on b newest begun below =
-      visited_tally b newest.there (omega arith) below
-      ∙ counted_is b newest.there (head_at t b) (keys_of arrivals b) (grind (arith, nat_tests)) (holds b (newest_before b newest begun))
-      ∙ ap (run alike (rows_at b.top b.level)) (sym (keys_more arrivals key b (omega arith) below))
+      visited_holds b newest.there (omega arith) below
+      (counted_is b newest.there (head_at t b) (keys_of arrivals b) (grind (arith, nat_tests)) (holds b (newest_before b newest begun)).0
+      ∙ ap (run alike (rows_at b.top b.level)) (sym (keys_more arrivals key b (omega arith) below)))
 
   -- it ended before
-  ended : (b : Stretch) → IsNewest shape (length (arrivals ++ key ∷ [])) b → first b + size b ≤ length arrivals → tally_at (put_tables alike (length arrivals) key shape t) b ≡ tally_of alike (arrivals ++ key ∷ []) b
+  ended : (b : Stretch) → IsNewest shape (length (arrivals ++ key ∷ [])) b → first b + size b ≤ length arrivals → Holds (put_tables alike (length arrivals) key shape t) b (tally_of alike (arrivals ++ key ∷ []) b)
   ended b newest complete =
       let some = pow_pos (b.scale + b.level) in
       let apart : (c : Stretch) → IsVisit shape (length arrivals) c → slot_of c ≡ slot_of b → ⊥ =
@@ -88,9 +89,9 @@ module _ {K : Type 0} (alike : K → K → Bool) (shape : Shape) (few : shape.sc
       let wide : size c ≡ size b = λ i. 2 ^ (same.0 i + same.1 i) in
       omega (arith, newest.newest c v.there e (omega (arith, v.from, length_push arrivals key)), v.below, wide) in
       let kept = put_leaves alike (length arrivals) key shape t room_for_all b newest.there apart in
-      (λ i. held (kept.0 i) (kept.1 i))
-      ∙ holds b (newest_before b newest (omega arith))
-      ∙ ap (run alike (rows_at b.top b.level)) (sym (keys_same arrivals key b complete))
+      let before = holds b (newest_before b newest (omega arith)) in
+      let same_tally = ap (run alike (rows_at b.top b.level)) (sym (keys_same arrivals key b complete)) in
+      ((λ i. held (kept.0 i) (kept.1 i)) ∙ before.0 ∙ same_tally, kept.1 ∙ before.1 ∙ ap head_of same_tally)
 
   pub put_holds : HoldsTallies alike shape (put_tables alike (length arrivals) key shape t) (arrivals ++ key ∷ [])
   put_holds b newest = ⊎_elim
