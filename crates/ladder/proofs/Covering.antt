@@ -15,7 +15,7 @@ use Rattle.layout.specs.Blocks.{Stretch, first, size}
 use Rattle.layout.specs.Covers.{cover_of, end_of, ignored_of, scale_from, scale_of, start_of}
 use Rattle.layout.specs.Laws.{Adjacent, IsCover, IsNear, LosesLittle}
 use Rattle.ladder.specs.Sums.{bracket_of, counted, lost}
-use Rattle.ladder.specs.Truth.{keys_of, tally_of}
+use Rattle.ladder.specs.Truth.{keys_of, block_tally}
 
 -- blocks one behind the other hold what lies between their ends
 pub adjacent_sizes : (p q : ℕ) (bs : List Stretch) → Adjacent p q bs → p + sum_by size bs ≡ q
@@ -54,43 +54,43 @@ module _ {K : Type 0} (alike : K → K → Bool) (arrivals : List K) (k : K) whe
       pub keys_long : length (keys_of arrivals b) ≡ size b
       keys_long = omega (arith, length-take (size b) (drop (first b) arrivals), length-drop (first b) arrivals)
 
-      pub block_tells : Tells alike (rows_at b.top b.level) (keys_of arrivals b) (tally_of alike arrivals b)
+      pub block_tells : Tells alike (rows_at b.top b.level) (keys_of arrivals b) (block_tally alike arrivals b)
       block_tells = run_tells alike symm tran (rows_at b.top b.level) (keys_of arrivals b) (omega (arith, keys_long))
 
-      block_between : (upto (first b) + count_in alike (tally_of alike arrivals b).rows k ≤ upto (first b + size b))
-          × (upto (first b + size b) ≤ upto (first b) + (count_in alike (tally_of alike arrivals b).rows k + (tally_of alike arrivals b).lost))
+      block_between : (upto (first b) + count_in alike (block_tally alike arrivals b).rows k ≤ upto (first b + size b))
+          × (upto (first b + size b) ≤ upto (first b) + (count_in alike (block_tally alike arrivals b).rows k + (block_tally alike arrivals b).lost))
       block_between =
           let more = upto_more (first b) (size b) in
           (omega (arith, more, block_tells.floor k), omega (arith, more, block_tells.ceiling k))
 
-      block_loses : LosesLittle (λ c. (tally_of alike arrivals c).lost) b
+      block_loses : LosesLittle (λ c. (block_tally alike arrivals c).lost) b
       block_loses = omega (arith, block_tells.whole, keys_long)
 
     -- all blocks of a cover, one after the other
     between : (p q : ℕ) (bs : List Stretch) → Adjacent p q bs → All (λ b. first b + size b ≤ length arrivals) bs
-        → (upto p + counted alike (tally_of alike arrivals) bs k ≤ upto q) × (upto q ≤ upto p + (counted alike (tally_of alike arrivals) bs k + lost (tally_of alike arrivals) bs))
+        → (upto p + counted alike (block_tally alike arrivals) bs k ≤ upto q) × (upto q ≤ upto p + (counted alike (block_tally alike arrivals) bs k + lost (block_tally alike arrivals) bs))
     between p q [] e complete = let same = ap upto e in (omega (arith, same), omega (arith, same))
     between p q (b ∷ bs) e complete =
         let here = block_between b (All-head (λ b. first b + size b ≤ length arrivals) b bs complete) in
         let rest = between (p + size b) q bs e.1 (All-tail (λ b. first b + size b ≤ length arrivals) b bs complete) in
         let start = ap upto e.0 in
         let end = ap (λ n. upto (n + size b)) e.0 in
-        let counts = sum_by-cons (λ b. count_in alike (tally_of alike arrivals b).rows k) b bs in
-        let losses = sum_by-cons (λ b. (tally_of alike arrivals b).lost) b bs in
+        let counts = sum_by-cons (λ b. count_in alike (block_tally alike arrivals b).rows k) b bs in
+        let losses = sum_by-cons (λ b. (block_tally alike arrivals b).lost) b bs in
         (omega (arith, here.0, rest.0, start, end, counts), omega (arith, here.1, rest.1, start, end, counts, losses))
 
-    pub all_lose_little : (bs : List Stretch) → All (λ b. first b + size b ≤ length arrivals) bs → All (LosesLittle (λ b. (tally_of alike arrivals b).lost)) bs
+    pub all_lose_little : (bs : List Stretch) → All (λ b. first b + size b ≤ length arrivals) bs → All (LosesLittle (λ b. (block_tally alike arrivals b).lost)) bs
     all_lose_little bs complete i d lo = block_loses _ (complete i d lo)
 
     -- alike keys count the same
-    pub counted_alike : (other : K) → alike k other ≡ true → (bs : List Stretch) → All (λ b. first b + size b ≤ length arrivals) bs → counted alike (tally_of alike arrivals) bs other ≡ counted alike (tally_of alike arrivals) bs k
+    pub counted_alike : (other : K) → alike k other ≡ true → (bs : List Stretch) → All (λ b. first b + size b ≤ length arrivals) bs → counted alike (block_tally alike arrivals) bs other ≡ counted alike (block_tally alike arrivals) bs k
     counted_alike other near [] complete = refl
     counted_alike other near (b ∷ bs) complete =
         let here = (block_tells b (All-head (λ c. first c + size c ≤ length arrivals) b bs complete)).same k other near in
         omega (
           arith,
-          sum_by-cons (λ c. count_in alike (tally_of alike arrivals c).rows other) b bs,
-          sum_by-cons (λ c. count_in alike (tally_of alike arrivals c).rows k) b bs,
+          sum_by-cons (λ c. count_in alike (block_tally alike arrivals c).rows other) b bs,
+          sum_by-cons (λ c. count_in alike (block_tally alike arrivals c).rows k) b bs,
           here,
           counted_alike other near bs (All-tail (λ c. first c + size c ≤ length arrivals) b bs complete),
         )
@@ -110,13 +110,13 @@ module _ {K : Type 0} (alike : K → K → Bool) (arrivals : List K) (k : K) whe
       all_complete : All (λ b. first b + size b ≤ length arrivals) blocks
       all_complete i d lo = (cover.answer i d lo).complete
 
-      little : All (LosesLittle (λ b. (tally_of alike arrivals b).lost)) blocks
+      little : All (LosesLittle (λ b. (block_tally alike arrivals b).lost)) blocks
       little = all_lose_little blocks all_complete
 
       few : truly ≤ n
       few = omega (arith, come, count_by-le-length (λ x. alike x k) (drop (length arrivals - n) arrivals), length-drop (length arrivals - n) arrivals)
 
-      pub truly_between : (counted alike (tally_of alike arrivals) blocks k ≤ truly) × (truly ≤ counted alike (tally_of alike arrivals) blocks k + (lost (tally_of alike arrivals) blocks + ignored))
+      pub truly_between : (counted alike (block_tally alike arrivals) blocks k ≤ truly) × (truly ≤ counted alike (block_tally alike arrivals) blocks k + (lost (block_tally alike arrivals) blocks + ignored))
       truly_between =
           let m = length arrivals in
           let p = start_of (scale_of shape n) m n in
@@ -133,19 +133,19 @@ module _ {K : Type 0} (alike : K → K → Bool) (arrivals : List K) (k : K) whe
             omega (arith, held.1, before.1, behind.1, rest, ap upto front, ap upto back, sizes, cover.whole, ends.from, ends.to, come),
           )
 
-      pub bracket_right : Bracket a n truly (bracket_of alike (tally_of alike arrivals) shape (length arrivals) n k)
+      pub bracket_right : Bracket a n truly (bracket_of alike (block_tally alike arrivals) shape (length arrivals) n k)
       bracket_right =
           let says = truly_between in
-          let counts = counted alike (tally_of alike arrivals) blocks k in
-          let losses = lost (tally_of alike arrivals) blocks in
+          let counts = counted alike (block_tally alike arrivals) blocks k in
+          let losses = lost (block_tally alike arrivals) blocks in
           record {
             floor = omega (arith, says.0);
             ceiling = omega (arith, says.1, few, come, small);
             near = λ some.
                 let gap : min (counts + (losses + ignored)) 4294967295 - min counts 4294967295 ≤ ignored + losses = omega arith in
-                omega (arith, mul-le-mul_left (2 ^ a) gap, near.near a accuracy (λ b. (tally_of alike arrivals b).lost) little some);
+                omega (arith, mul-le-mul_left (2 ^ a) gap, near.near a accuracy (λ b. (block_tally alike arrivals b).lost) little some);
             none = λ z.
-                let exact = near.exact (ap (scale_of shape) z ∙ smallest_for_none shape) (λ b. (tally_of alike arrivals b).lost) little in
+                let exact = near.exact (ap (scale_of shape) z ∙ smallest_for_none shape) (λ b. (block_tally alike arrivals b).lost) little in
                 let no_floor : min counts 4294967295 ≡ 0 = omega (arith, says.0, few, z) in
                 let no_ceiling : min (counts + (losses + ignored)) 4294967295 ≡ 0 = omega (arith, says.0, few, z, exact.0, exact.1) in
                 λ i. (no_floor i, no_ceiling i);

@@ -19,10 +19,11 @@ use Rattle.layout.specs.Blocks.{Stretch, first, size as size_of}
 use Rattle.layout.specs.Covers.{cover_of, ignored_of}
 use Rattle.layout.specs.Laws.{CanAnswer, IsBlock, IsWindow}
 use Rattle.layout.proofs.CoverLaws.{cover_is, cover_is_near}
+use Rattle.ladder.specs.Exact.{counts, lists}
 use Rattle.ladder.specs.Ladders.{bracket, listing, shape_at}
 use Rattle.ladder.specs.Sums.{bracket_of, counted, keys_in, listing_of, lost}
 use Rattle.ladder.specs.Tables.{tables, tally_at}
-use Rattle.ladder.specs.Truth.{HoldsWindow, IsNewest, tally_of}
+use Rattle.ladder.specs.Truth.{HoldsWindow, IsNewest, block_tally}
 use Rattle.ladder.proofs.Covering.{bracket_right, counted_alike}
 use Rattle.ladder.proofs.Naming.{names_right}
 
@@ -74,17 +75,24 @@ module _ {K : Type 0} (alike : K → K → Bool) (s : Figures) (rows : List (Row
   came = length-append past window ∙ sym puts
 
   -- the slots of the cover hold the tallies of their blocks
-  covered : All (λ b. tally_at (tables rows heads) b ≡ tally_of alike arrivals b) (cover_of (shape_at s) s.puts s.size)
+  covered : All (λ b. tally_at (tables rows heads) b ≡ block_tally alike arrivals b) (cover_of (shape_at s) s.puts s.size)
   covered i d lo =
       let cover = cover_is (shape_at s) s.puts s.size held.levels fits in
       let b = slice_index_or (cover_of (shape_at s) s.puts s.size) i d in
       (held.tallies b (subst (λ m. IsNewest (shape_at s) m b) (sym came) (newest_can (shape_at s) s.puts s.size b (cover.there i d lo) (cover.answer i d lo)))).0
 
-  pub bracket_held : (k : K) → bracket alike s rows heads k ≡ bracket_of alike (tally_of alike arrivals) (shape_at s) s.puts s.size k
-  bracket_held k = bracket_by_both alike (tally_at (tables rows heads)) (tally_of alike arrivals) (shape_at s) s.puts s.size covered k
+  bracket_held : (k : K) → bracket alike s rows heads k ≡ bracket_of alike (block_tally alike arrivals) (shape_at s) s.puts s.size k
+  bracket_held k = bracket_by_both alike (tally_at (tables rows heads)) (block_tally alike arrivals) (shape_at s) s.puts s.size covered k
 
-  pub listing_held : (threshold : ℕ) → listing alike s rows heads threshold ≡ listing_of alike (tally_of alike arrivals) (shape_at s) s.puts s.size threshold
-  listing_held threshold = listing_by_both alike (tally_at (tables rows heads)) (tally_of alike arrivals) (shape_at s) s.puts s.size covered threshold
+  listing_held : (threshold : ℕ) → listing alike s rows heads threshold ≡ listing_of alike (block_tally alike arrivals) (shape_at s) s.puts s.size threshold
+  listing_held threshold = listing_by_both alike (tally_at (tables rows heads)) (block_tally alike arrivals) (shape_at s) s.puts s.size covered threshold
+
+  -- so the tables answer what follows from the keys
+  pub counts_exactly : (k : K) → bracket alike s rows heads k ≡ counts alike s.accuracy s.span past window k
+  counts_exactly k = bracket_held k ∙ (λ i. bracket_of alike (block_tally alike arrivals) (shape_at s) (puts i) (size i) k)
+
+  pub lists_exactly : (threshold : ℕ) → listing alike s rows heads threshold ≡ lists alike s.accuracy s.span past window threshold
+  lists_exactly threshold = listing_held threshold ∙ (λ i. listing_of alike (block_tally alike arrivals) (shape_at s) (puts i) (size i) threshold)
 
   module _ (self : (x : K) → alike x x ≡ true) (symm : (x y : K) → alike x y ≡ true → alike y x ≡ true) (tran : (x y z : K) → alike x y ≡ true → alike y z ≡ true → alike x z ≡ true) where
     small : length arrivals < 4294967296
@@ -107,9 +115,9 @@ module _ {K : Type 0} (alike : K → K → Bool) (s : Figures) (rows : List (Row
         let near = cover_is_near (shape_at s) (length arrivals) s.size held.levels fits_now in
         let right = bracket_right alike arrivals k symm tran small (shape_at s) s.size s.accuracy enough refl cover near in
         rw (bracket_held k)
-        (subst (λ m. Bracket s.accuracy (length window) (true_count alike window k) (bracket_of alike (tally_of alike arrivals) (shape_at s) m s.size k)) came
-        (subst (λ n. Bracket s.accuracy n (true_count alike window k) (bracket_of alike (tally_of alike arrivals) (shape_at s) (length arrivals) s.size k)) size
-        (subst (λ ks. Bracket s.accuracy s.size (true_count alike ks k) (bracket_of alike (tally_of alike arrivals) (shape_at s) (length arrivals) s.size k)) window_is right)))
+        (subst (λ m. Bracket s.accuracy (length window) (true_count alike window k) (bracket_of alike (block_tally alike arrivals) (shape_at s) m s.size k)) came
+        (subst (λ n. Bracket s.accuracy n (true_count alike window k) (bracket_of alike (block_tally alike arrivals) (shape_at s) (length arrivals) s.size k)) size
+        (subst (λ ks. Bracket s.accuracy s.size (true_count alike ks k) (bracket_of alike (block_tally alike arrivals) (shape_at s) (length arrivals) s.size k)) window_is right)))
 
     pub listing_is_right : (threshold : ℕ) → unfit s threshold ≡ false → Lists alike s.accuracy threshold window (listing alike s rows heads threshold)
     listing_is_right threshold fit =
@@ -119,8 +127,8 @@ module _ {K : Type 0} (alike : K → K → Bool) (s : Figures) (rows : List (Row
         let reach : s.size ≤ threshold * 2 ^ s.accuracy = grind (arith, nat_tests) in
         let right = names_right alike self symm tran arrivals small (shape_at s) s.size s.accuracy enough refl cover near threshold some reach in
         rw (listing_held threshold)
-        (subst (λ m. Lists alike s.accuracy threshold window (listing_of alike (tally_of alike arrivals) (shape_at s) m s.size threshold)) came
-        (subst (λ ks. Lists alike s.accuracy threshold ks (listing_of alike (tally_of alike arrivals) (shape_at s) (length arrivals) s.size threshold)) window_is right))
+        (subst (λ m. Lists alike s.accuracy threshold window (listing_of alike (block_tally alike arrivals) (shape_at s) m s.size threshold)) came
+        (subst (λ ks. Lists alike s.accuracy threshold ks (listing_of alike (block_tally alike arrivals) (shape_at s) (length arrivals) s.size threshold)) window_is right))
 
     -- alike keys have the same bracket
     pub bracket_alike : (k other : K) → alike k other ≡ true → bracket alike s rows heads other ≡ bracket alike s rows heads k
@@ -128,6 +136,6 @@ module _ {K : Type 0} (alike : K → K → Bool) (s : Figures) (rows : List (Row
         let cover = cover_is (shape_at s) s.puts s.size held.levels fits in
         let complete : All (λ b. first b + size_of b ≤ length arrivals) (cover_of (shape_at s) s.puts s.size) = λ i d lo. omega (arith, came, (cover.answer i d lo).complete) in
         let counts = counted_alike alike arrivals k symm tran small other near (cover_of (shape_at s) s.puts s.size) complete in
-        let losses = lost (tally_of alike arrivals) (cover_of (shape_at s) s.puts s.size) in
+        let losses = lost (block_tally alike arrivals) (cover_of (shape_at s) s.puts s.size) in
         let ignored = ignored_of (shape_at s) s.puts s.size in
         bracket_held other ∙ (λ i. (min (counts i) 4294967295, min (counts i + (losses + ignored)) 4294967295)) ∙ sym (bracket_held k)

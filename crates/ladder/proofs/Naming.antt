@@ -16,7 +16,7 @@ use Rattle.layout.specs.Blocks.{Stretch, first, size}
 use Rattle.layout.specs.Covers.{cover_of, ignored_of}
 use Rattle.layout.specs.Laws.{CanAnswer, IsCover, IsNear}
 use Rattle.ladder.specs.Sums.{bracket_of, counted, keys_in, listing_of, lost}
-use Rattle.ladder.specs.Truth.{keys_of, tally_of}
+use Rattle.ladder.specs.Truth.{keys_of, block_tally}
 use Rattle.ladder.proofs.Covering.{all_lose_little, block_tells, bracket_right, truly_between}
 
 module _ {K : Type 0} (alike : K → K → Bool) where
@@ -67,23 +67,23 @@ module _ {K : Type 0} (alike : K → K → Bool) where
     long = omega (arith, length-drop (length arrivals - n) arrivals, come)
 
     -- a key of a block is one of the window
-    block_stands : (b : Stretch) → CanAnswer shape (length arrivals) n b → All (λ row. Stands alike window row.key) (tally_of alike arrivals b).rows
+    block_stands : (b : Stretch) → CanAnswer shape (length arrivals) n b → All (λ row. Stands alike window row.key) (block_tally alike arrivals b).rows
     block_stands b can i d lo =
         let came = (block_tells alike arrivals d.key symm tran small b can.complete).came i d lo in
-        let k = (slice_index_or (tally_of alike arrivals b).rows i d).key in
+        let k = (slice_index_or (block_tally alike arrivals b).rows i d).key in
         let own : Stands alike (keys_of arrivals b) k = subst (Stands alike (keys_of arrivals b)) came.2 (all_stand alike self (keys_of arrivals b) came.0 k came.1) in
         let there : length arrivals - n + (first b - (length arrivals - n)) ≡ first b = omega (arith, can.inside) in
         let inside = part_counts (first b - (length arrivals - n)) (size b) window k in
         omega (arith, own, inside, ap (λ xs. true_count alike (take (size b) xs) k) (drop-drop (first b - (length arrivals - n)) (length arrivals - n) arrivals), ap (λ f. true_count alike (take (size b) (drop f arrivals)) k) there)
 
     -- a key that counts enough has a row
-    enough_named : (threshold : ℕ) → 1 ≤ threshold → n ≤ threshold * 2 ^ a → (k : K) → threshold ≤ true_count alike window k → among alike (keys_in (tally_of alike arrivals) blocks) k ≡ true
-    enough_named threshold some reach k enough = ways (among alike (keys_in (tally_of alike arrivals) blocks) k) refl
+    enough_named : (threshold : ℕ) → 1 ≤ threshold → n ≤ threshold * 2 ^ a → (k : K) → threshold ≤ true_count alike window k → among alike (keys_in (block_tally alike arrivals) blocks) k ≡ true
+    enough_named threshold some reach k enough = ways (among alike (keys_in (block_tally alike arrivals) blocks) k) refl
       where
-        ways : (b : Bool) → among alike (keys_in (tally_of alike arrivals) blocks) k ≡ b → b ≡ true
+        ways : (b : Bool) → among alike (keys_in (block_tally alike arrivals) blocks) k ≡ b → b ≡ true
         ways true e = refl
         ways false e =
-            let tally = tally_of alike arrivals in
+            let tally = block_tally alike arrivals in
             let none = none_in_all tally blocks k e in
             let says = truly_between alike arrivals k symm tran small shape n a come accuracy cover near in
             let little = all_lose_little alike arrivals k symm tran small blocks (λ i d lo. (cover.answer i d lo).complete) in
@@ -91,9 +91,9 @@ module _ {K : Type 0} (alike : K → K → Bool) where
             let n_some : 1 ≤ n = omega (arith, some, enough, count_by-le-length (λ x. alike x k) window, long) in
             absurd (omega (arith, mul-le-mul_left (2 ^ a) missed, mul_comm (2 ^ a) threshold, near.near a accuracy (λ b. (tally b).lost) little n_some))
 
-    pub names_right : (threshold : ℕ) → 1 ≤ threshold → n ≤ threshold * 2 ^ a → Lists alike a threshold window (listing_of alike (tally_of alike arrivals) shape (length arrivals) n threshold)
+    pub names_right : (threshold : ℕ) → 1 ≤ threshold → n ≤ threshold * 2 ^ a → Lists alike a threshold window (listing_of alike (block_tally alike arrivals) shape (length arrivals) n threshold)
     names_right threshold some reach =
-        listed_lists alike symm tran a threshold (bracket_of alike (tally_of alike arrivals) shape (length arrivals) n) (keys_in (tally_of alike arrivals) blocks) window
+        listed_lists alike symm tran a threshold (bracket_of alike (block_tally alike arrivals) shape (length arrivals) n) (keys_in (block_tally alike arrivals) blocks) window
         (λ k. rw long (bracket_right alike arrivals k symm tran small shape n a come accuracy cover near))
-        (keys_all (tally_of alike arrivals) (Stands alike window) blocks (λ i d lo. block_stands _ (cover.answer i d lo)))
+        (keys_all (block_tally alike arrivals) (Stands alike window) blocks (λ i d lo. block_stands _ (cover.answer i d lo)))
         (enough_named threshold some reach)

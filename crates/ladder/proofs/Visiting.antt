@@ -12,7 +12,7 @@ use Rattle.layout.specs.Slots.{Shape}
 use Rattle.layout.specs.Blocks.{Stretch, first, slot_of}
 use Rattle.layout.specs.Laws.{IsBlock}
 use Rattle.layout.proofs.SlotsOfBlocks.{rows_filled, heads_filled}
-use Rattle.ladder.specs.Tables.{counted_at, empty_head, HasRoom, head_at, Lies, part, rows_after, rows_of, Tables, tables, visited, with_part}
+use Rattle.ladder.specs.Tables.{stepped_at, empty_head, HasRoom, head_at, Lies, part, rows_after, rows_of, Tables, tables, visited, with_part}
 use Rattle.ladder.proofs.Parts.{length_with_part, part_other, part_same, rest_kept}
 use Rattle.ladder.proofs.Rooms.{slot_lies}
 
@@ -32,7 +32,7 @@ module _ {K : Type 0} (alike : K → K → Bool) (m : ℕ) (key : K) where
         let slot = rows_of t b in
         let before : Head = if first b == m then empty_head else head_at t b in
         let few = length_step alike (room slot) (held slot before) key (omega (arith, length-take-le (in_use slot before) slot (omega arith))) in
-        length_over (counted_at alike m key t b).rows slot (omega (arith, few)) ∙ length-take-le (slot_of b).rows (drop (slot_of b).start t.rows) (omega (arith, lies.rows_there, length-drop (slot_of b).start t.rows))
+        length_over (stepped_at alike m key t b).rows slot (omega (arith, few)) ∙ length-take-le (slot_of b).rows (drop (slot_of b).start t.rows) (omega (arith, lies.rows_there, length-drop (slot_of b).start t.rows))
 
     pub rows_long : length (visited alike m key t b).rows ≡ length t.rows
     unfolding visited
@@ -40,16 +40,16 @@ module _ {K : Type 0} (alike : K → K → Bool) (m : ℕ) (key : K) where
 
     pub heads_long : length (visited alike m key t b).heads ≡ length t.heads
     unfolding visited
-    heads_long = length-set t.heads (slot_of b).head (head_of (counted_at alike m key t b))
+    heads_long = length-set t.heads (slot_of b).head (head_of (stepped_at alike m key t b))
 
     -- the block's slot takes the step
     pub rows_here : rows_of (visited alike m key t b) b ≡ rows_after alike m key t b
     unfolding visited
     rows_here = part_same (slot_of b) (rows_after alike m key t b) t.rows lies.rows_there long
 
-    pub head_here : head_at (visited alike m key t b) b ≡ head_of (counted_at alike m key t b)
+    pub head_here : head_at (visited alike m key t b) b ≡ head_of (stepped_at alike m key t b)
     unfolding visited
-    head_here = get_or-set_same t.heads (slot_of b).head (head_of (counted_at alike m key t b)) empty_head lies.head_there
+    head_here = get_or-set_same t.heads (slot_of b).head (head_of (stepped_at alike m key t b)) empty_head lies.head_there
 
     -- what lies behind the slot stays
     pub rows_behind : (n : ℕ) → (slot_of b).start + (slot_of b).rows ≤ n → drop n (visited alike m key t b).rows ≡ drop n t.rows
@@ -58,7 +58,7 @@ module _ {K : Type 0} (alike : K → K → Bool) (m : ℕ) (key : K) where
 
     pub heads_behind : (n : ℕ) → (slot_of b).head < n → drop n (visited alike m key t b).heads ≡ drop n t.heads
     unfolding visited
-    heads_behind n past = drop-set-lt n t.heads (slot_of b).head (head_of (counted_at alike m key t b)) past
+    heads_behind n past = drop-set-lt n t.heads (slot_of b).head (head_of (stepped_at alike m key t b)) past
 
   -- another slot stays as it is
   module _ (shape : Shape) (t : Tables K) (room : HasRoom shape t.rows t.heads) (b c : Stretch) (isb : IsBlock shape b) (isc : IsBlock shape c) (apart : slot_of b ≡ slot_of c → ⊥) where
@@ -80,5 +80,5 @@ module _ {K : Type 0} (alike : K → K → Bool) (m : ℕ) (key : K) where
     pub head_there : head_at (visited alike m key t b) c ≡ head_at t c
     unfolding visited
     head_there =
-        get_or-set_other t.heads (slot_of b).head (slot_of c).head (head_of (counted_at alike m key t b)) empty_head
+        get_or-set_other t.heads (slot_of b).head (slot_of c).head (head_of (stepped_at alike m key t b)) empty_head
         (λ e. apart ((heads_filled shape).apart (slot_of c).head b c isb isc (record { from = omega (arith, e); below = omega (arith, e) }) (record { from = omega arith; below = omega arith })))

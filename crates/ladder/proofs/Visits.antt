@@ -1,17 +1,17 @@
 -- What an arrival does to the tables: each of its blocks takes its step once. Assumes nothing.
-use Rattle.std.proofs.Common.{◌≡◌, ◌⊎◌, ℕ, zero, suc, ◌+◌, ◌*◌, ◌<◌, ◌≤◌, Bool, List, [], ◌∷◌, ◌++◌, ◌==◌, if◌then◌else◌, All, drop, fold, refl, ap, ◌∙◌, sym, subst, ⊎_elim, inl, inr, arith}
+use Rattle.std.proofs.Common.{◌≡◌, ◌⊎◌, ℕ, zero, suc, ◌+◌, ◌<◌, ◌≤◌, Bool, List, [], ◌∷◌, ◌++◌, ◌==◌, if◌then◌else◌, All, drop, fold, refl, ap, ◌∙◌, sym, subst, ⊎_elim, inl, inr, arith}
 use Rattle.std.proofs.lemmas.Bool.{cases_eq}
 use Rattle.std.proofs.lemmas.List.Elements.{All-nil, All-cons, All-head, All-tail, All-append}
 use Rattle.tally.specs.declared.rows.Head.{Head}
 use Rattle.tally.specs.declared.rows.Row.{Row}
 use Rattle.tally.specs.Slots.{head_of, over, stepped}
 use Rattle.tally.specs.Steps.{Summary}
-use Rattle.layout.specs.Slots.{Shape, scale_heads, scale_rows}
+use Rattle.layout.specs.Slots.{all_heads, all_rows, Shape}
 use Rattle.layout.specs.Blocks.{Stretch, block_of, blocks_from, first, scales_from, slot_of, visits_of}
 use Rattle.layout.specs.Laws.{IsBlock, IsVisit}
 use Rattle.layout.proofs.BlocksOfArrivals.{one_of_level, visits_right}
 use Rattle.layout.proofs.SlotsOfBlocks.{rows_filled, heads_filled, same_turn}
-use Rattle.ladder.specs.Tables.{counted_at, empty_head, HasRoom, head_at, put_tables, rows_after, rows_of, Tables, visited}
+use Rattle.ladder.specs.Tables.{stepped_at, empty_head, HasRoom, head_at, put_tables, rows_after, rows_of, Tables, visited}
 use Rattle.ladder.proofs.Rooms.{room_kept, slot_lies}
 use Rattle.ladder.proofs.Visiting.{head_here, head_there, heads_behind, heads_long, rows_behind, rows_here, rows_long, rows_there}
 
@@ -96,7 +96,7 @@ module _ {K : Type 0} (alike : K → K → Bool) (m : ℕ) (key : K) (shape : Sh
 
   -- a block's slot, where the block is one of them
   once_takes : (bs : List Stretch) (t : Tables K) → HasRoom shape t.rows t.heads → (b : Stretch) → IsBlock shape b → All (IsBlock shape) bs → IsOnce b bs
-      → (rows_of (fold (visited alike m key) t bs) b ≡ rows_after alike m key t b) × (head_at (fold (visited alike m key) t bs) b ≡ head_of (counted_at alike m key t b))
+      → (rows_of (fold (visited alike m key) t bs) b ≡ rows_after alike m key t b) × (head_at (fold (visited alike m key) t bs) b ≡ head_of (stepped_at alike m key t b))
   once_takes [] t room b isb are once = absurd once
   once_takes (c ∷ cs) t room b isb are once =
       let isc = All-head (IsBlock shape) c cs are in
@@ -106,7 +106,7 @@ module _ {K : Type 0} (alike : K → K → Bool) (m : ℕ) (key : K) (shape : Sh
       (λ (here : (c ≡ b) × All (Elsewhere b) cs).
       let apart : All (λ d. slot_of d ≡ slot_of b → ⊥) cs = λ k d lo. elsewhere_apart shape b _ isb (rest k d lo) (here.1 k d lo) in
       let after = others_keep cs (visited alike m key t b) (room_after t room b isb) b isb rest apart in
-      subst (λ d. (rows_of (fold (visited alike m key) (visited alike m key t d) cs) b ≡ rows_after alike m key t b) × (head_at (fold (visited alike m key) (visited alike m key t d) cs) b ≡ head_of (counted_at alike m key t b))) (sym here.0)
+      subst (λ d. (rows_of (fold (visited alike m key) (visited alike m key t d) cs) b ≡ rows_after alike m key t b) × (head_at (fold (visited alike m key) (visited alike m key t d) cs) b ≡ head_of (stepped_at alike m key t b))) (sym here.0)
       (after.0 ∙ rows_here alike m key t b lies, after.1 ∙ head_here alike m key t b lies))
       (λ (later : Elsewhere b c × IsOnce b cs).
       let apart = elsewhere_apart shape b c isb isc later.0 in
@@ -114,33 +114,33 @@ module _ {K : Type 0} (alike : K → K → Bool) (m : ℕ) (key : K) (shape : Sh
       let same_head = head_there alike m key shape t room c b isc isb apart in
       let after = once_takes cs (visited alike m key t c) (room_after t room c isc) b isb rest later.1 in
       let taken : Stretch → List (Row K) → Head → Summary K = λ d rows head. stepped alike rows (if first d == m then empty_head else head) key in
-      let same : counted_at alike m key (visited alike m key t c) b ≡ counted_at alike m key t b = λ i. taken b (same_rows i) (same_head i) in
+      let same : stepped_at alike m key (visited alike m key t c) b ≡ stepped_at alike m key t b = λ i. taken b (same_rows i) (same_head i) in
       (after.0 ∙ (λ i. over (same i).rows (same_rows i)), after.1 ∙ ap head_of same))
       once
 
   -- what lies behind all slots
   behind_kept : (bs : List Stretch) (t : Tables K) → HasRoom shape t.rows t.heads → All (IsBlock shape) bs
-      → (drop (shape.scales * scale_rows shape.top) (fold (visited alike m key) t bs).rows ≡ drop (shape.scales * scale_rows shape.top) t.rows)
-      × (drop (shape.scales * scale_heads shape.top) (fold (visited alike m key) t bs).heads ≡ drop (shape.scales * scale_heads shape.top) t.heads)
+      → (drop (all_rows shape) (fold (visited alike m key) t bs).rows ≡ drop (all_rows shape) t.rows)
+      × (drop (all_heads shape) (fold (visited alike m key) t bs).heads ≡ drop (all_heads shape) t.heads)
   behind_kept [] t room are = (refl, refl)
   behind_kept (b ∷ bs) t room are =
       let isb = All-head (IsBlock shape) b bs are in
       let lies = slot_lies shape t.rows t.heads room b isb in
       let again = behind_kept bs (visited alike m key t b) (room_after t room b isb) (All-tail (IsBlock shape) b bs are) in (
-        again.0 ∙ rows_behind alike m key t b lies (shape.scales * scale_rows shape.top) ((rows_filled shape).within b isb),
-        again.1 ∙ heads_behind alike m key t b lies (shape.scales * scale_heads shape.top) (omega (arith, (heads_filled shape).within b isb)),
+        again.0 ∙ rows_behind alike m key t b lies (all_rows shape) ((rows_filled shape).within b isb),
+        again.1 ∙ heads_behind alike m key t b lies (all_heads shape) (omega (arith, (heads_filled shape).within b isb)),
       )
 
   visits_are : All (IsBlock shape) (visits_of shape m)
   visits_are k d lo = (visits_right shape m k d lo).there
 
   module _ (t : Tables K) (room : HasRoom shape t.rows t.heads) where
-    pub put_steps : (b : Stretch) → IsVisit shape m b → (rows_of (put_tables alike m key shape t) b ≡ rows_after alike m key t b) × (head_at (put_tables alike m key shape t) b ≡ head_of (counted_at alike m key t b))
+    pub put_steps : (b : Stretch) → IsVisit shape m b → (rows_of (put_tables alike m key shape t) b ≡ rows_after alike m key t b) × (head_at (put_tables alike m key shape t) b ≡ head_of (stepped_at alike m key t b))
     put_steps b v = once_takes (visits_of shape m) t room b v.there visits_are (once_visited shape m b v)
 
     pub put_leaves : (b : Stretch) → IsBlock shape b → ((c : Stretch) → IsVisit shape m c → slot_of c ≡ slot_of b → ⊥) → (rows_of (put_tables alike m key shape t) b ≡ rows_of t b) × (head_at (put_tables alike m key shape t) b ≡ head_at t b)
     put_leaves b is apart = others_keep (visits_of shape m) t room b is visits_are (λ k d lo. apart _ (visits_right shape m k d lo))
 
-    pub put_behind : (drop (shape.scales * scale_rows shape.top) (put_tables alike m key shape t).rows ≡ drop (shape.scales * scale_rows shape.top) t.rows)
-        × (drop (shape.scales * scale_heads shape.top) (put_tables alike m key shape t).heads ≡ drop (shape.scales * scale_heads shape.top) t.heads)
+    pub put_behind : (drop (all_rows shape) (put_tables alike m key shape t).rows ≡ drop (all_rows shape) t.rows)
+        × (drop (all_heads shape) (put_tables alike m key shape t).heads ≡ drop (all_heads shape) t.heads)
     put_behind = behind_kept (visits_of shape m) t room visits_are

@@ -1,29 +1,29 @@
--- Worked cases: seventeen keys at accuracy 1 and span 5, all alike. Assumes nothing.
-use Rattle.std.specs.Prelude.{◌≡◌, ℕ, true, false, List, [], ◌∷◌, nat_eq, replicate}
+-- Worked cases, by the keys that came; keys are numbers. Assumes nothing.
+use Rattle.std.specs.Prelude.{◌≡◌, ℕ, true, false, List, [], ◌∷◌, ◌++◌, nat_eq, replicate}
 use Rattle.keeper.specs.declared.entry.Entry.{Entry}
-use Rattle.keeper.specs.Figures.{Figures}
 use Rattle.keeper.specs.Refusals.{unfit}
-use Rattle.layout.specs.Slots.{shape_of}
-use Rattle.ladder.specs.Sums.{bracket_of, listing_of}
-use Rattle.ladder.specs.Truth.{tally_of}
+use Rattle.ladder.specs.Exact.{counts, lists}
 
--- the bracket of the key, and the entries at a threshold, once it came n times and nothing was let go
-abbrev pub bracket_after : ℕ → ℕ × ℕ
-bracket_after n = bracket_of nat_eq (tally_of nat_eq (replicate n 7)) (shape_of 1 5) n n 7
+abbrev pub entry_with : ℕ → ℕ → ℕ → Entry ℕ
+entry_with key floor ceiling = record { key = key; floor = floor; ceiling = ceiling }
 
-abbrev pub listing_after : ℕ → ℕ → List (Entry ℕ)
-listing_after n threshold = listing_of nat_eq (tally_of nat_eq (replicate n 7)) (shape_of 1 5) n n threshold
+-- seventeen 2 and two 3, after a 1 was let go
+abbrev pub nineteen : List ℕ
+nineteen = replicate 17 2 ++ (3 ∷ 3 ∷ [])
 
-abbrev pub figures_after : ℕ → Figures
-figures_after n = record { accuracy = 1; span = 5; puts = n; size = n }
-
--- the smallest scale counts sixteen exactly; for seventeen the next one answers, whose blocks hold an even number
+-- accuracy 1 and span 5. The smallest scale counts sixteen exactly; beyond that the next one answers, whose blocks hold an even number
 pub record CountCases : Type 0 where
-  pub sixteen : bracket_after 16 ≡ (16, 16)
-  pub seventeen : bracket_after 17 ≡ (16, 17)
+  pub sixteen : counts nat_eq 1 5 [] (replicate 16 7) 7 ≡ (16, 16)
+  pub seventeen : counts nat_eq 1 5 [] (replicate 17 7) 7 ≡ (16, 17)
+  pub gone : counts nat_eq 1 5 (1 ∷ []) nineteen 1 ≡ (0, 1)
+  pub cut : counts nat_eq 1 5 (1 ∷ []) nineteen 2 ≡ (16, 17)
+  pub whole : counts nat_eq 1 5 (1 ∷ []) nineteen 3 ≡ (2, 3)
 
--- of seventeen keys, 9 is the least threshold that is answered
+-- of seventeen keys that are alike, 9 is the least threshold that is answered, and 17, the ceiling, the highest that names the key. At accuracy 2, entries come by the first places of their keys in the cover
 pub record ListCases : Type 0 where
-  pub eight : unfit (figures_after 17) 8 ≡ true
-  pub nine : unfit (figures_after 17) 9 ≡ false
-  pub one_key : listing_after 17 9 ≡ record { key = 7; floor = 16; ceiling = 17 } ∷ []
+  pub eight : unfit (record { accuracy = 1; span = 5; puts = 17; size = 17 }) 8 ≡ true
+  pub nine : unfit (record { accuracy = 1; span = 5; puts = 17; size = 17 }) 9 ≡ false
+  pub at_nine : lists nat_eq 1 5 [] (replicate 17 7) 9 ≡ entry_with 7 16 17 ∷ []
+  pub at_ceiling : lists nat_eq 1 5 [] (replicate 17 7) 17 ≡ entry_with 7 16 17 ∷ []
+  pub above : lists nat_eq 1 5 [] (replicate 17 7) 18 ≡ []
+  pub in_order : lists nat_eq 2 5 (1 ∷ 1 ∷ []) (6 ∷ 7 ∷ 8 ∷ 6 ∷ 7 ∷ 8 ∷ []) 2 ≡ entry_with 6 2 2 ∷ entry_with 7 2 2 ∷ entry_with 8 2 2 ∷ []

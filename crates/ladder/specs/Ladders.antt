@@ -1,17 +1,17 @@
 -- What a ladder's record and tables answer; the record is seen as its figures. Assumes nothing.
-use Rattle.std.specs.Prelude.{ℕ, ◌*◌, Bool, List}
+use Rattle.std.specs.Prelude.{ℕ, Bool, List}
 use Rattle.keeper.specs.declared.entry.Entry.{Entry}
 use Rattle.keeper.specs.declared.lengths.Lengths.{Lengths}
 use Rattle.keeper.specs.Figures.{Figures}
 use Rattle.tally.specs.declared.rows.Head.{Head}
 use Rattle.tally.specs.declared.rows.Row.{Row}
-use Rattle.layout.specs.Slots.{scale_heads, scale_rows, Shape, shape_of}
+use Rattle.layout.specs.Slots.{all_heads, all_rows, Shape, shape_of}
 use Rattle.ladder.specs.Sums.{bracket_of, listing_of}
 use Rattle.ladder.specs.Tables.{put_tables, Tables, tables, tally_at}
 
 -- the rows and heads of all slots
 abbrev pub need_of : ℕ → ℕ → Lengths
-need_of a k = let shape = shape_of a k in record { rows = shape.scales * scale_rows shape.top; heads = shape.scales * scale_heads shape.top }
+need_of a k = record { rows = all_rows (shape_of a k); heads = all_heads (shape_of a k) }
 
 -- where its tallies lie
 abbrev pub shape_at : Figures → Shape

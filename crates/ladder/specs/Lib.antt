@@ -1,4 +1,5 @@
 pub mod Cases
+pub mod Exact
 pub mod Inside
 pub mod Ladders
 pub mod Sketches

@@ -1,11 +1,11 @@
 -- What lies in a ladder's two tables, slot by slot, whatever they hold. Assumes nothing.
-use Rattle.std.specs.Prelude.{◌≡◌, ℕ, ◌+◌, ◌*◌, ◌<◌, ◌≤◌, Bool, if◌then◌else◌, List, ◌++◌, length, take, drop, get_or, fold, slice_set, ◌==◌}
+use Rattle.std.specs.Prelude.{◌≡◌, ℕ, ◌+◌, ◌<◌, ◌≤◌, Bool, if◌then◌else◌, List, ◌++◌, length, take, drop, get_or, fold, slice_set, ◌==◌}
 use Rattle.tally.specs.declared.rows.Head.{Head}
 use Rattle.tally.specs.declared.rows.Row.{Row}
 use Rattle.tally.specs.Slots.{held, head_of, over, stepped}
 use Rattle.tally.specs.Steps.{Summary}
 use Rattle.layout.specs.declared.place.Place.{Place}
-use Rattle.layout.specs.Slots.{Shape, scale_heads, scale_rows}
+use Rattle.layout.specs.Slots.{all_heads, all_rows, Shape}
 use Rattle.layout.specs.Blocks.{Stretch, first, slot_of, visits_of}
 use Rattle.layout.specs.Laws.{IsBlock, IsVisit}
 
@@ -32,8 +32,8 @@ pub record Lies {K : Type 0} (place : Place) (rows : List (Row K)) (heads : List
 
 -- all slots do
 pub record HasRoom {K : Type 0} (shape : Shape) (rows : List (Row K)) (heads : List Head) : Type 0 where
-  pub enough_rows : shape.scales * scale_rows shape.top ≤ length rows
-  pub enough_heads : shape.scales * scale_heads shape.top ≤ length heads
+  pub enough_rows : all_rows shape ≤ length rows
+  pub enough_heads : all_heads shape ≤ length heads
 
 module _ {K : Type 0} where
   -- both of them
@@ -52,18 +52,18 @@ module _ {K : Type 0} where
 
   module _ (alike : K → K → Bool) (m : ℕ) (key : K) where
     -- the tally of a block's slot after arrival m, which was this key; where it is the block's first, the slot is emptied before
-    abbrev pub counted_at : Tables K → Stretch → Summary K
-    counted_at t b = stepped alike (rows_of t b) (if first b == m then empty_head else head_at t b) key
+    abbrev pub stepped_at : Tables K → Stretch → Summary K
+    stepped_at t b = stepped alike (rows_of t b) (if first b == m then empty_head else head_at t b) key
 
     -- the slot's rows with that tally in them
     abbrev pub rows_after : Tables K → Stretch → List (Row K)
-    rows_after t b = over (counted_at t b).rows (rows_of t b)
+    rows_after t b = over (stepped_at t b).rows (rows_of t b)
 
     -- the tables with that slot
     unfoldable pub visited : Tables K → Stretch → Tables K
     visited t b = record {
       rows = with_part (slot_of b) (rows_after t b) t.rows;
-      heads = slice_set t.heads (slot_of b).head (head_of (counted_at t b));
+      heads = slice_set t.heads (slot_of b).head (head_of (stepped_at t b));
     }
 
     -- the tables after arrival m, which was this key, was counted at every level of every scale
@@ -72,5 +72,5 @@ module _ {K : Type 0} where
 
     -- the blocks that the arrival falls into take their steps, and every slot that none of them uses stays as it was
     pub record TakesSteps (shape : Shape) (t t' : Tables K) : Type 0 where
-      pub steps : (b : Stretch) → IsVisit shape m b → (rows_of t' b ≡ rows_after t b) × (head_at t' b ≡ head_of (counted_at t b))
+      pub steps : (b : Stretch) → IsVisit shape m b → (rows_of t' b ≡ rows_after t b) × (head_at t' b ≡ head_of (stepped_at t b))
       pub stays : (b : Stretch) → IsBlock shape b → ((c : Stretch) → IsVisit shape m c → slot_of c ≡ slot_of b → ⊥) → (rows_of t' b ≡ rows_of t b) × (head_at t' b ≡ head_at t b)

@@ -16,8 +16,8 @@ abbrev pub keys_of : {K : Type 0} → List K → Stretch → List K
 keys_of arrivals b = take (size b) (drop (first b) arrivals)
 
 -- their Misra-Gries tally, in as many rows as the block's slot has
-abbrev pub tally_of : {K : Type 0} → (K → K → Bool) → List K → Stretch → Summary K
-tally_of alike arrivals b = run alike (rows_at b.top b.level) (keys_of arrivals b)
+abbrev pub block_tally : {K : Type 0} → (K → K → Bool) → List K → Stretch → Summary K
+block_tally alike arrivals b = run alike (rows_at b.top b.level) (keys_of arrivals b)
 
 -- a block has begun, and none that uses its slot began later
 pub record IsNewest (shape : Shape) (m : ℕ) (b : Stretch) : Type 0 where
@@ -31,7 +31,7 @@ Holds t b tally = (tally_at t b ≡ tally) × (head_at t b ≡ head_of tally)
 
 -- each slot that a block has begun holds the tally of its newest block
 abbrev pub HoldsTallies : {K : Type 0} → (K → K → Bool) → Shape → Tables K → List K → Type 0
-HoldsTallies alike shape t arrivals = (b : Stretch) → IsNewest shape (length arrivals) b → Holds t b (tally_of alike arrivals b)
+HoldsTallies alike shape t arrivals = (b : Stretch) → IsNewest shape (length arrivals) b → Holds t b (block_tally alike arrivals b)
 
 -- record and tables of a ladder are true to a window, after a past
 pub record HoldsWindow {K : Type 0} (alike : K → K → Bool) (s : Figures) (rows : List (Row K)) (heads : List Head) (past window : List K) : Type 0 where

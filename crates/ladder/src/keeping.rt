@@ -4,6 +4,7 @@ ghost use Rattle.std.specs.Prelude.{◌≡◌, ◌^◌, ◌≤◌, is_ok, if◌t
 ghost use Rattle.keeper.specs.Figures.{most_puts};
 ghost use Rattle.keeper.specs.Rules.{Counted, Listed, Put};
 ghost use Rattle.ladder.specs.Cases.{CountCases, ListCases};
+ghost use Rattle.ladder.specs.Exact.{CountsExactly, ListsExactly};
 ghost use Rattle.ladder.specs.Ladders.{bracket, listing, need_of, shape_at, stored};
 ghost use Rattle.ladder.specs.Tables.{tables, TakesSteps};
 ghost use Rattle.ladder.specs.Truth.{HoldsWindow};
@@ -74,6 +75,7 @@ impl<K: Likeness> Keeper<K> for Ladder {
 
     fn count(&self, rows: &[Row<K>], heads: &[Head], key: &K) -> Result<(u32, u32), Refusal>
         ensures keeper { Counted (λ s. s) (HoldsWindow K.Likeness.alike) need_of K.Likeness.alike (bracket K.Likeness.alike) self.now rows.now heads.now key.now result }
+        ensures exactly { CountsExactly K.Likeness.alike self.now rows.now heads.now key.now }
         ensures worked { CountCases }
     {
         self.answer_count(rows, heads, key)
@@ -88,6 +90,7 @@ impl<K: Likeness> Keeper<K> for Ladder {
     ) -> Result<usize, Refusal>
         ensures keeper { Listed (λ s. s) (HoldsWindow K.Likeness.alike) need_of K.Likeness.alike (bracket K.Likeness.alike) (listing K.Likeness.alike)
             self.now rows.now heads.now threshold list.old result list.new }
+        ensures exactly { ListsExactly K.Likeness.alike self.now rows.now heads.now threshold }
         ensures worked { ListCases }
     {
         self.answer_list(rows, heads, threshold, list)

@@ -1,5 +1,5 @@
 -- A trace on a ladder answers and ends as the keys that came say. Assumes nothing.
-use Rattle.std.proofs.Common.{ℕ, Bool, List, ◌++◌, ◌∙◌, subst}
+use Rattle.std.proofs.Common.{ℕ, Bool, List, ◌++◌, subst}
 use Rattle.tally.specs.declared.rows.Head.{Head}
 use Rattle.tally.specs.declared.rows.Row.{Row}
 use Rattle.keeper.specs.declared.entry.Entry.{Entry}
@@ -7,28 +7,24 @@ use Rattle.keeper.specs.Tables.{lengths}
 use Rattle.layout.specs.Slots.{shape_of}
 use Rattle.ladder.specs.declared.figures.Ladder.{Ladder}
 use Rattle.ladder.specs.Ladders.{bracket, listing, need_of}
-use Rattle.ladder.specs.Sums.{bracket_of, listing_of}
 use Rattle.ladder.specs.Tables.{tables}
-use Rattle.ladder.specs.Truth.{HoldsTallies, HoldsWindow, tally_of}
-use Rattle.ladder.proofs.Held.{bracket_held, listing_held}
+use Rattle.ladder.specs.Truth.{HoldsTallies, HoldsWindow}
+use Rattle.ladder.proofs.Held.{counts_exactly, lists_exactly}
 use Rattle.traces.specs.declared.calls.Call.{Call}
 use Rattle.traces.specs.declared.stage.Trace.{Trace}
 use Rattle.traces.specs.Account.{Account, blank}
 use Rattle.traces.specs.Determined.{Determined}
 use Rattle.traces.specs.Model.{after}
 use Rattle.traces.specs.Traces.{Runs}
-use Rattle.ladder_traces.specs.Exact.{counts, lists, RunsExactly, terms}
+use Rattle.ladder_traces.specs.Exact.{RunsExactly, terms}
+use Rattle.ladder.specs.Exact.{counts, lists}
 
 module _ {K : Type 0} (alike : K → K → Bool) where
   -- a ladder's counts and lists follow from the keys that came
   determined : Determined {P = Ladder} (λ s. s) (HoldsWindow alike) (bracket alike) (listing alike) (counts alike) (lists alike)
   determined = record {
-    counted = λ s rows heads past window t key.
-        bracket_held alike s rows heads past window t.held t.size t.puts key
-        ∙ (λ i. bracket_of alike (tally_of alike (past ++ window)) (shape_of s.accuracy s.span) (t.puts i) (t.size i) key);
-    listed = λ s rows heads past window t threshold fit.
-        listing_held alike s rows heads past window t.held t.size t.puts threshold
-        ∙ (λ i. listing_of alike (tally_of alike (past ++ window)) (shape_of s.accuracy s.span) (t.puts i) (t.size i) threshold);
+    counted = λ s rows heads past window t key. counts_exactly alike s rows heads past window t.held t.size t.puts key;
+    listed = λ s rows heads past window t threshold fit. lists_exactly alike s rows heads past window t.held t.size t.puts threshold;
   }
 
   pub runs_exactly : (a k : ℕ) (calls : List (Call K)) (rows rows' : List (Row K)) (heads heads' : List Head) (list list' : List (Entry K)) (trace : Trace K Ladder)

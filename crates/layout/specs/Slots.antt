@@ -57,3 +57,10 @@ slot_at top i j s = record {
   rows = rows_at top j;
   head = i * scale_heads top + heads_below top j + s;
 }
+
+-- the rows and the heads of all scales
+abbrev pub all_rows : Shape → ℕ
+all_rows shape = shape.scales * scale_rows shape.top
+
+abbrev pub all_heads : Shape → ℕ
+all_heads shape = shape.scales * scale_heads shape.top

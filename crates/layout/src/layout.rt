@@ -7,7 +7,7 @@ ghost use Rattle.layout.specs.Cases.{HeadCases, Ninety, RowCases, Seventeen};
 ghost use Rattle.layout.specs.Covers.{cover_of, end_of, ignored_of, scale_of, start_of};
 ghost use Rattle.layout.specs.Inside.{IsLevel, IsShape, IsWalk};
 ghost use Rattle.layout.specs.Laws.{AreEnds, FillHeads, FillRows, IsCover, IsNear, IsScaleFor, IsVisit, IsWindow, longest};
-ghost use Rattle.layout.specs.Slots.{heads_below, rows_below, scale_heads, scale_rows, shape_of};
+ghost use Rattle.layout.specs.Slots.{all_heads, all_rows, heads_below, rows_below, shape_of};
 
 use crate::cover::Cover;
 use crate::level::Level;
@@ -65,7 +65,7 @@ impl Layout {
 
     /// How many rows the slots take.
     pub fn rows(&self) -> usize
-        ensures value { result ≡ self.now.scales * scale_rows self.now.top }
+        ensures value { result ≡ all_rows self.now }
         ensures sum { result ≡ self.now.scales * rows_below self.now.top (self.now.top + 1) }
         ensures few { result < 2 ^ 21 }
         ensures filled { FillRows self.now result }
@@ -77,7 +77,7 @@ impl Layout {
 
     /// How many heads the slots take: one each.
     pub fn heads(&self) -> usize
-        ensures value { result ≡ self.now.scales * scale_heads self.now.top }
+        ensures value { result ≡ all_heads self.now }
         ensures sum { result ≡ self.now.scales * heads_below self.now.top (self.now.top + 1) }
         ensures few { result < 2 ^ 16 }
         ensures filled { FillHeads self.now result }

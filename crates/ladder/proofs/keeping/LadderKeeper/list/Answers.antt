@@ -1,6 +1,6 @@
 use Rattle.keeper.proofs.Listings.{listed_counts}
 use Rattle.ladder.specs.Ladders.{bracket}
-use Rattle.ladder.proofs.Held.{listing_is_right}
+use Rattle.ladder.proofs.Held.{listing_is_right, lists_exactly}
 use Rattle.ladder.proofs.keeping.LadderKeeper.list.Goals as goal
 
 pub returns-clause-keeper : goal.returns-clause-keeper
@@ -18,3 +18,6 @@ returns-clause-keeper g c =
       counts = listed_counts alike (bracket alike s rows heads) threshold _;
       right = λ asked past window t. listing_is_right alike s rows heads past window t.held t.size t.puts laws.reflexive laws.symmetric laws.transitive threshold asked;
     }
+
+pub returns-clause-exactly : goal.returns-clause-exactly
+returns-clause-exactly g c past window t = lists_exactly g.K.Likeness.alike c.args.self.now c.args.rows.now c.args.heads.now past window t.held t.size t.puts c.args.threshold
