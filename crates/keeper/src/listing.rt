@@ -60,8 +60,8 @@ fn count_entries<K: Likeness, S: Source<K>>(source: &S, threshold: u32) -> usize
         .count()
 }
 
-// Writes the entries over the front of the list. Its places are counted by hand: over the chain above, behind `enumerate`, it
-// stayed open that a place is inside the list.
+// Writes the entries over the front of the list. The index is counted by hand: of the chain above with `enumerate` behind it the check
+// could not show that a place is inside the list.
 #[tactic(auto, using(crate::proofs::Listings::entries_more, std::proofs::lemmas::Grind::common_steps))]
 fn write_entries<K: Likeness, S: Source<K>>(source: &S, threshold: u32, list: &mut [Entry<K>])
     requires { length (entries_from K.alike (S.bracket source.now) threshold (S.keys source.now) 0) ≤ length list.old }

@@ -14,7 +14,7 @@ use layout::{Block, Cover, Place};
 use likeness::Likeness;
 use tally::{Head, Row, Slot};
 
-// The slot at a place of the tables.
+// The slot at a place of the tables. A function of its own, where what is known of the place is a bound of a parameter.
 fn slot_in<'a, K>(rows: &'a [Row<K>], heads: &[Head], place: Place) -> Slot<'a, K>
     requires { Lies place rows.now heads.now }
     ensures rows { result.rows.now ≡ part place rows.now }

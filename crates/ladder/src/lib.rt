@@ -1,4 +1,4 @@
-//! The ladder: the keeper that stores no key for long, but tallies of blocks of arrivals at every scale.
+//! The ladder: the keeper that has, in place of the window's keys, tallies of blocks of arrivals at every scale.
 #![tactic(auto)]
 
 mod answering;

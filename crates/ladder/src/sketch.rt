@@ -7,7 +7,7 @@ ghost use Rattle.ladder.specs.Tables.{HasRoom};
 use layout::Layout;
 use tally::{Head, Row};
 
-// The newest `size` of so many arrivals. The tables hold a tally for each block that covers them.
+// Two tables with room for all slots, read as the newest `size` of so many arrivals.
 #[derive(Drop)]
 pub(crate) struct Sketch<'a, K> {
     pub(crate) rows: &'a [Row<K>],

@@ -16,8 +16,9 @@ use tally::{Head, Row};
 use traces::{Call, Trace, run_trace};
 
 /// Makes a ladder and performs the calls, each with the tables that the one before it left. Whatever the tables hold, however long
-/// they are and whichever calls come, each answer is the one that the reference model demands; each count is what the tallies of the
-/// blocks that cover the window then say, and each list is; and at the end each slot holds the tally of its newest block.
+/// they are and whichever calls come, each answer is the one that the reference model demands; each count and each list is the one that
+/// the tallies of the blocks give that cover the window then; and at the end each slot that a block has begun holds the tally of its
+/// newest.
 ///
 /// The answers are kept on the heap, and want of memory is the one error.
 pub fn run_ladder_trace<K: Likeness>(
