@@ -4,7 +4,8 @@ use Rattle.std.proofs.lemmas.List.{length-map, length-take}
 use Rattle.std.proofs.lemmas.List.Elements.{All-head, All-tail}
 use Rattle.std.proofs.lemmas.List.Concat.{flat_map-cons}
 use Rattle.tally.specs.declared.rows.Row.{Row}
-use Rattle.tally.specs.Slots.{in_use}
+use Rattle.tally.specs.declared.rows.Head.{Head}
+use Rattle.tally.specs.Slots.{held, in_use}
 use Rattle.tally.specs.Steps.{Summary}
 use Rattle.layout.specs.Blocks.{slot_of, Stretch}
 use Rattle.layout.specs.Covers.{cover_of}
@@ -21,15 +22,22 @@ use Rattle.ladder.specs.Tables.{head_at, rows_of, Tables, tables, tally_at}
 
 module _ {K : Type 0} (s : Sketch K) where
   -- the next row's key comes first
-  pub left_row : (row : Row K) (rest rows : List (Row K)) (blocks : List Stretch) → rows ≡ row ∷ rest → keys_left s rows blocks ≡ row.key ∷ keys_left s rest blocks
-  left_row row rest rows blocks split = ap (λ rs. keys_left s rs blocks) split
+  pub left_row : (row : Row K) (rest rows : List (Row K)) (blocks : List Stretch) (whole : List K) → rows ≡ row ∷ rest → keys_left s rows blocks ≡ whole → whole ≡ row.key ∷ keys_left s rest blocks
+  left_row row rest rows blocks whole split left = sym left ∙ ap (λ rs. keys_left s rs blocks) split
+
+  -- the rows in use of a block's slot
+  pub live_is : (b : Stretch) (slot live : List (Row K)) (head : Head) → live ≡ (held slot head).rows → slot ≡ rows_of (tables s.rows.now s.heads.now) b → head ≡ head_at (tables s.rows.now s.heads.now) b
+      → live ≡ (tally_at (tables s.rows.now s.heads.now) b).rows
+  live_is b slot live head told there found = told ∙ (λ i. (held (there i) (found i)).rows)
 
   -- the next block's rows come where no row is left
-  pub left_block : (b : Stretch) (rows slot : List (Row K)) (rest blocks : List Stretch) → rows ≡ [] → blocks ≡ b ∷ rest → slot ≡ (tally_at (tables s.rows.now s.heads.now) b).rows → keys_left s slot rest ≡ keys_left s rows blocks
-  left_block b rows slot rest blocks none split found =
+  pub left_block : (b : Stretch) (rows slot : List (Row K)) (rest blocks : List Stretch) (whole : List K) → rows ≡ [] → blocks ≡ b ∷ rest → slot ≡ (tally_at (tables s.rows.now s.heads.now) b).rows
+      → keys_left s rows blocks ≡ whole → keys_left s slot rest ≡ whole
+  left_block b rows slot rest blocks whole none split found left =
       ap (λ rs. keys_left s rs rest) found
       ∙ sym (flat_map-cons (λ c. map (λ row. row.key) (tally_at (tables s.rows.now s.heads.now) c).rows) b rest)
       ∙ (λ i. keys_left s (sym none i) (sym split i))
+      ∙ left
 
   -- none is left
   pub left_none : (rows : List (Row K)) (blocks : List Stretch) → rows ≡ [] → blocks ≡ [] → keys_left s rows blocks ≡ []

@@ -3,7 +3,7 @@ use Rattle.std.proofs.lemmas.List.{nil_from_length}
 use Rattle.std.proofs.lemmas.List.Elements.{All-head, All-tail}
 use Rattle.layout.specs.Laws.{IsBlock}
 use Rattle.tally.specs.Slots.{held}
-use Rattle.ladder.proofs.CoverKeys.{left_block, left_none, left_row}
+use Rattle.ladder.proofs.CoverKeys.{left_block, left_none, left_row, live_is}
 use Rattle.ladder.proofs.keys.KeysIterator.next.Goals as goal
 
 pub loop-self-init : goal.loop-self-init
@@ -29,7 +29,7 @@ loop-self-preserved g c =
     let keys = c.loop-self.self-inside in
     let empty : keys.rows.now ≡ [] = nil_from_length keys.rows.now (search (rules, tests)) in
     record {
-      left = left_block keys.sketch.now c.in_ok-block.block keys.rows.now c.live-self-inside.result.now c.next.new.self keys.blocks empty c.in_ok-block.ensures.steps (c.live-self-inside.ensures ∙ (λ i. (held (c.slot.ensures.rows i) (c.slot.ensures.head i)).rows)) ∙ c.loop-self.invariant.left;
+      left = left_block keys.sketch.now c.in_ok-block.block keys.rows.now c.live-self-inside.result.now c.next.new.self keys.blocks c.args.self.now empty c.in_ok-block.ensures.steps (live_is keys.sketch.now c.in_ok-block.block c.slot.result.rows.now c.live-self-inside.result.now c.slot.result.head c.live-self-inside.ensures c.slot.ensures.rows c.slot.ensures.head) c.loop-self.invariant.left;
       there = All-tail (IsBlock keys.sketch.now.layout) c.in_ok-block.block c.next.new.self (subst (All (IsBlock keys.sketch.now.layout)) c.in_ok-block.ensures.steps c.loop-self.invariant.there);
     }
 
@@ -39,7 +39,7 @@ invariant_of-self-2 g c = c.loop-self.invariant.there
 pub returns-clause-steps : goal.returns-clause-steps
 returns-clause-steps g c =
     let keys = c.loop-self.self-inside in
-    sym c.loop-self.invariant.left ∙ left_row keys.sketch.now c.in_ok-row.row.now c.in_ok-row.rest.now keys.rows.now keys.blocks (search rules)
+    left_row keys.sketch.now c.in_ok-row.row.now c.in_ok-row.rest.now keys.rows.now keys.blocks c.args.self.now (search rules) c.loop-self.invariant.left
 
 pub returns-clause-goes : goal.returns-clause-goes
 returns-clause-goes g c =
