@@ -1,0 +1,2 @@
+pub mod ApartEntries
+pub mod Hundredths

@@ -1,0 +1,2 @@
+pub mod Gaps
+pub mod Right
