@@ -1,7 +1,7 @@
 //! Keys, rings and comparisons that the tests share.
 
 mod fixed_windows;
-mod ladder_traces;
+mod on_a_ladder;
 mod whole_traces;
 
 use keeper::{Entry, Keeper};
