@@ -1,5 +1,5 @@
 -- The limits of the ferry classes, and the band of a clearance, in whole centimetres. Assumes nothing.
-use Rattle.std.specs.Prelude.{ℕ, ◌-◌, List, [], ◌∷◌, ℤ, pos, int_le, count_by, slice_index_or}
+use Rattle.std.specs.Prelude.{ℕ, ◌-◌, if◌then◌else◌, List, [], ◌∷◌, Some, None, Option, ℤ, pos, int_le, nat_le, count_by, slice_index_or}
 
 -- the least clearance that each class needs, class 1 first
 abbrev pub limits : List ℤ
@@ -16,3 +16,7 @@ band clearance = reached clearance limits
 -- what a class needs; the classes count from 1
 abbrev pub limit : ℕ → ℤ
 limit class = slice_index_or limits (class - 1) (pos 0)
+
+-- the band of a number: bands are the numbers 0 to 6
+abbrev pub numbered : ℕ → Option ℕ
+numbered n = if nat_le n 6 then Some n else None

@@ -2,12 +2,16 @@
 #![tactic(auto)]
 
 ghost use Rattle.std.specs.Prelude.{◌≡◌, ℕ, ◌≤◌};
+ghost use Rattle.bands.specs.Bands.{numbered};
 
 use std::marker::Model;
 
 mod clearance;
 
 pub use clearance::{LIMITS, band_of};
+
+// The band of a clearance that suffices for every class.
+const HIGHEST: u8 = 6;
 
 /// How many of the six class limits a clearance reaches: 0 to 6. It suffices for the classes 1 to that number.
 ///
@@ -28,6 +32,16 @@ impl Model for Band {
 }
 
 impl Band {
+    /// The band of this number, 0 to 6.
+    pub fn new(number: u8) -> Option<Band>
+        ensures { result ≡ numbered number }
+    {
+        if number > HIGHEST {
+            return None;
+        }
+        Some(Band { value: number })
+    }
+
     /// The band as a number, 0 to 6.
     pub fn value(&self) -> u8
         ensures value { result ≡ self.now }
@@ -54,5 +68,12 @@ mod tests {
         assert_eq!(rt; band_of(-60).value(), 0);
         assert_eq!(rt; band_of(i32::MIN).value(), 0);
         assert_eq!(rt; band_of(i32::MAX).value(), 6);
+    }
+
+    #[test]
+    fn by_numbers(rt: HostRuntime) {
+        assert_eq!(rt; Band::new(0), Some(band_of(45)));
+        assert_eq!(rt; Band::new(6), Some(band_of(98)));
+        assert_eq!(rt; Band::new(7), None);
     }
 }

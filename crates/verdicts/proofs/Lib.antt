@@ -1,0 +1,3 @@
+pub mod ShortKeys
+pub mod Adding
+pub mod Judging

@@ -1,0 +1,4 @@
+pub mod Cases
+pub mod Refusals
+pub mod Rules
+pub mod Verdicts
