@@ -2,13 +2,15 @@
 
 ghost use Rattle.std.specs.Prelude.{◌≡◌, ◌≤◌, ◌^◌, ◌<◌};
 ghost use Rattle.keeper.specs.Rules.{Counted, Listed};
+ghost use Rattle.verdicts.specs.Rules.{Judged};
 ghost use Rattle.windows.specs.Windows.{Slid};
 
 use crate::fixed::Sliding;
 use keeper::{Entry, Keeper, Lengths, Record, Refusal};
-use likeness::Likeness;
+use likeness::{Likeness, SoundingKey};
 use settings::Setting;
 use tally::{Head, Row};
+use verdicts::{Judgement, VerdictRefusal, verdict};
 
 /// It tells what its keeper tells. How many keys the window holds is always the size that it was to have.
 impl<P: Record> Record for Sliding<P> {
@@ -83,5 +85,21 @@ impl<P: Record> Sliding<P> {
             self.now.keeper rows.now heads.now threshold list.old result list.new }
     {
         self.keeper.list(rows, heads, threshold, list)
+    }
+
+    /// Whether a ferry of this class can come in, from the keeper's counts of the sounder's keys.
+    pub fn verdict(
+        &self,
+        rows: &[Row<SoundingKey>],
+        heads: &[Head],
+        sounder: [u8; 2],
+        class: u8,
+    ) -> Result<Judgement, VerdictRefusal>
+    where
+        P: Keeper<SoundingKey>,
+        ensures { Judged P.Record.figures P.Keeper.holds P.Record.need P.Keeper.bracket
+            self.now.keeper rows.now heads.now sounder class result }
+    {
+        verdict(&self.keeper, rows, heads, sounder, class)
     }
 }
