@@ -1,87 +1,66 @@
--- A trace under way, from the first call to the last. Assumes nothing.
-use Rattle.std.proofs.Common.{◌≡◌, ℕ, Bool, List, [], ◌∷◌, ◌++◌, length, take, drop, fold, refl, sym, ap, ◌∙◌, subst, append_assoc}
-use Rattle.std.proofs.lemmas.List.{append-nil}
+-- Calls performed one after the other, of whatever kind, on tables and with a list that are lent. Assumes nothing.
+use Rattle.std.proofs.Common.{◌≡◌, List, [], ◌∷◌, ◌++◌, length, drop, fold, refl, sym, ap, ◌∙◌}
 use Rattle.std.proofs.lemmas.List.Sums.{fold-append}
 use Rattle.tally.specs.declared.rows.Head.{Head}
 use Rattle.tally.specs.declared.rows.Row.{Row}
 use Rattle.keeper.specs.declared.entry.Entry.{Entry}
 use Rattle.keeper.specs.declared.lengths.Lengths.{Lengths}
-use Rattle.keeper.specs.Figures.{Figures}
-use Rattle.traces.specs.declared.calls.Answer.{Answer}
-use Rattle.traces.specs.declared.calls.Call.{Call}
-use Rattle.traces.specs.declared.stage.Stage.{Stage}
-use Rattle.traces.specs.Account.{Account, State, Terms, blank}
-use Rattle.traces.specs.Determined.{AllExact}
-use Rattle.traces.specs.Model.{Conform, Meets, after, due, next, told_as}
-use Rattle.traces.specs.Steps.{Steps}
-use Rattle.traces.specs.Stages.{Follows, keeper_of, terms_at, written}
-use Rattle.traces.proofs.Exact.{given_at}
+use Rattle.traces.specs.Sequences.{AllMeet}
 
-module _ {P K : Type 0} (figures : P → Figures) (holds : P → List (Row K) → List Head → List K → List K → Type 0) (need : ℕ → ℕ → Lengths) (alike : K → K → Bool)
-    (bracket : P → List (Row K) → List Head → K → ℕ × ℕ) (listing : P → List (Row K) → List Head → ℕ → List (Entry K)) where
-  -- one call, wherever a trace has come to
-  step_at : (t : Terms) (a : Account K) (s : Stage P) (rows : List (Row K)) (heads : List Head) (list : List (Entry K)) (call : Call K) (s' : Stage P) (answer : Answer ℕ) (rows' : List (Row K)) (heads' : List Head) (list' : List (Entry K))
-      → Steps figures holds need alike bracket listing s rows heads list call s' answer rows' heads' list' → Follows figures holds need t a s rows heads
-      → Meets alike t a (length list) (due t a call) (told_as (λ count. take count list') answer) × Follows figures holds need t (next t a call) s' rows' heads'
-  step_at t a s rows heads list call s' answer rows' heads' list' e st =
-      let goes : Terms → State → Type 0 = λ terms state.
-      let b : Account K = record { state = state; past = a.past; window = a.window } in
-      Meets alike terms b (length list) (due terms b call) (told_as (λ count. take count list') answer) × Follows figures holds need terms (next terms b call) s' rows' heads' in
-      subst (λ terms. goes terms a.state) st.terms
-      (subst (goes (terms_at figures need (keeper_of s) rows heads)) st.state (e.goes a.past a.window st.true_to))
+module _ {A C R : Type 0} (next : A → C → A) (meets : A → C → R → Type 0) where
+  -- where all answers meet one thing, they meet what is weaker
+  pub all_meet_weaker : {weaker : A → C → R → Type 0} → ((a : A) (call : C) (answer : R) → meets a call answer → weaker a call answer)
+      → (a : A) (calls : List C) (answers : List R) → AllMeet next meets a calls answers → AllMeet next weaker a calls answers
+  all_meet_weaker implied a [] [] all = tt
+  all_meet_weaker implied a [] (answer ∷ answers) all = all
+  all_meet_weaker implied a (call ∷ calls) [] all = all
+  all_meet_weaker implied a (call ∷ calls) (answer ∷ answers) all = (implied a call answer all.0, all_meet_weaker implied (next a call) calls answers all.1)
 
-  -- how far a trace has come: `rest` are the calls to come
-  pub record SoFar (t : Terms) (calls : List (Call K)) (list : List (Entry K)) (rows : List (Row K)) (heads : List Head) (rest : List (Call K)) (s : Stage P) (answers : List (Answer (List (Entry K)))) (rows' : List (Row K)) (heads' : List Head) (list' : List (Entry K)) : Type 0 where
-    pub account : Account K
-    pub follows : Follows figures holds need t account s rows' heads'
-    pub right : (more : List (Answer (List (Entry K)))) → Conform alike t (length list) account rest more → Conform alike t (length list) blank calls (answers ++ more)
-    pub exact : (more : List (Answer (List (Entry K)))) → AllExact figures holds bracket listing t account rest more → AllExact figures holds bracket listing t blank calls (answers ++ more)
-    pub leads : after t account rest ≡ after t blank calls
+  -- one call more
+  all_meet_more : (a : A) (calls : List C) (answers : List R) (call : C) (answer : R)
+      → AllMeet next meets a calls answers → meets (fold next a calls) call answer → AllMeet next meets a (calls ++ call ∷ []) (answers ++ answer ∷ [])
+  all_meet_more a [] [] call answer all met = (met, tt)
+  all_meet_more a [] (told ∷ answers) call answer all met = absurd all
+  all_meet_more a (first ∷ calls) [] call answer all met = absurd all
+  all_meet_more a (first ∷ calls) (told ∷ answers) call answer all met = (all.0, all_meet_more (next a first) calls answers call answer all.1 met)
+
+-- `next`, `meets`: the account after a call, and which answers are right. `follows`: a stage stands where the account is. `written`: the
+-- list after an answer. `need`: as much of the tables as may change. `begin`: the account at first, with these tables and this list.
+module _ {A C R S K : Type 0} (next : A → C → A) (meets : A → C → R → Type 0) (follows : A → S → List (Row K) → List Head → Type 0) (written : List (Entry K) → R → List (Entry K)) (need : Lengths)
+    (begin : A) (rows : List (Row K)) (heads : List Head) (list : List (Entry K)) where
+  -- how far it has come: these calls are performed
+  pub record SoFar (calls : List C) (s : S) (answers : List R) (rows' : List (Row K)) (heads' : List Head) (list' : List (Entry K)) : Type 0 where
+    pub right : AllMeet next meets begin calls answers
+    pub stands : follows (fold next begin calls) s rows' heads'
     pub list_after : list' ≡ fold written list answers
     pub room : length list' ≡ length list
-    pub rows_rest : drop t.need.rows rows' ≡ drop t.need.rows rows
-    pub heads_rest : drop t.need.heads heads' ≡ drop t.need.heads heads
+    pub rows_rest : drop need.rows rows' ≡ drop need.rows rows
+    pub heads_rest : drop need.heads heads' ≡ drop need.heads heads
 
-  module _ (t : Terms) (calls : List (Call K)) (list : List (Entry K)) (rows : List (Row K)) (heads : List Head) where
-    pub so_far_start : (s : Stage P) → Follows figures holds need t blank s rows heads → SoFar t calls list rows heads calls s [] rows heads list
-    so_far_start s st = record {
-      account = blank;
-      follows = st;
-      right = λ more conform. conform;
-      exact = λ more exact. exact;
-      leads = refl;
-      list_after = refl;
-      room = refl;
-      rows_rest = refl;
-      heads_rest = refl;
-    }
+module _ {A C R S K : Type 0} {next : A → C → A} {meets : A → C → R → Type 0} {follows : A → S → List (Row K) → List Head → Type 0} {written : List (Entry K) → R → List (Entry K)} {need : Lengths}
+    {begin : A} {rows : List (Row K)} {heads : List Head} {list : List (Entry K)} where
+  pub so_far_start : {s : S} → follows begin s rows heads → SoFar next meets follows written need begin rows heads list [] s [] rows heads list
+  so_far_start st = record {
+    right = tt;
+    stands = st;
+    list_after = refl;
+    room = refl;
+    rows_rest = refl;
+    heads_rest = refl;
+  }
 
-    pub so_far_step : (call : Call K) (rest : List (Call K)) (s s1 : Stage P) (answers : List (Answer (List (Entry K)))) (answer : Answer ℕ) (rows0 rows1 : List (Row K)) (heads0 heads1 : List Head) (list0 list1 : List (Entry K))
-        → Steps figures holds need alike bracket listing s rows0 heads0 list0 call s1 answer rows1 heads1 list1 → length list1 ≡ length list0
-        → SoFar t calls list rows heads (call ∷ rest) s answers rows0 heads0 list0
-        → SoFar t calls list rows heads rest s1 (answers ++ told_as (λ count. take count list1) answer ∷ []) rows1 heads1 list1
-    so_far_step call rest s s1 answers answer rows0 rows1 heads0 heads1 list0 list1 e room h =
-        let told = told_as (λ count. take count list1) answer in
-        let met = step_at t h.account s rows0 heads0 list0 call s1 answer rows1 heads1 list1 e h.follows in
-        let same_need = ap (λ terms. terms.need) h.follows.terms in
-        record {
-          account = next t h.account call;
-          follows = met.1;
-          right = λ more conform. rw (append_assoc answers (told ∷ []) more) (h.right (told ∷ more) (rw (sym h.room) met.0, conform));
-          exact = λ more exact. rw (append_assoc answers (told ∷ []) more) (h.exact (told ∷ more) (λ counts lists determined.
-              (given_at figures holds need alike bracket listing counts lists determined t h.account s rows0 heads0 h.follows (length list0) call told met.0 e.gives, exact counts lists determined)));
-          leads = h.leads;
-          list_after = e.list_after ∙ ap (λ before. written before told) h.list_after ∙ sym (fold-append written list answers (told ∷ []));
-          room = room ∙ h.room;
-          rows_rest = subst (λ n. drop n.rows rows1 ≡ drop n.rows rows0) same_need e.rows_rest ∙ h.rows_rest;
-          heads_rest = subst (λ n. drop n.heads heads1 ≡ drop n.heads heads0) same_need e.heads_rest ∙ h.heads_rest;
-        }
-
-    pub so_far_end : (s : Stage P) (answers : List (Answer (List (Entry K)))) (rows' : List (Row K)) (heads' : List Head) (list' : List (Entry K))
-        → SoFar t calls list rows heads [] s answers rows' heads' list'
-        → Conform alike t (length list) blank calls answers × AllExact figures holds bracket listing t blank calls answers × Follows figures holds need t (after t blank calls) s rows' heads'
-    so_far_end s answers rows' heads' list' h = (
-      subst (Conform alike t (length list) blank calls) (append-nil answers) (h.right [] tt),
-      subst (AllExact figures holds bracket listing t blank calls) (append-nil answers) (h.exact [] (λ counts lists determined. tt)),
-      subst (λ a. Follows figures holds need t a s rows' heads') h.leads h.follows,
-    )
+  -- one call more, which is right by the account after those before it
+  pub so_far_step : {calls : List C} {s s1 : S} {answers : List R} {rows0 rows1 : List (Row K)} {heads0 heads1 : List Head} {list0 list1 : List (Entry K)} {call : C} {answer : R}
+      → SoFar next meets follows written need begin rows heads list calls s answers rows0 heads0 list0
+      → meets (fold next begin calls) call answer → follows (next (fold next begin calls) call) s1 rows1 heads1
+      → list1 ≡ written list0 answer → length list1 ≡ length list0
+      → drop need.rows rows1 ≡ drop need.rows rows0 → drop need.heads heads1 ≡ drop need.heads heads0
+      → SoFar next meets follows written need begin rows heads list (calls ++ call ∷ []) s1 (answers ++ answer ∷ []) rows1 heads1 list1
+  so_far_step {calls} {answers} {call} {answer} h met st list_after room rows_rest heads_rest = record {
+    right = all_meet_more next meets begin calls answers call answer h.right met;
+    stands = rw (fold-append next begin calls (call ∷ [])) st;
+    list_after = list_after ∙ ap (λ before. written before answer) h.list_after ∙ sym (fold-append written list answers (answer ∷ []));
+    room = room ∙ h.room;
+    rows_rest = rows_rest ∙ h.rows_rest;
+    heads_rest = heads_rest ∙ h.heads_rest;
+  }

@@ -1,5 +1,5 @@
 -- Exactly which counts and lists are answered, where they follow from the keys that came. Assumes nothing.
-use Rattle.std.specs.Prelude.{◌≡◌, ℕ, false, List, ◌∷◌}
+use Rattle.std.specs.Prelude.{◌≡◌, ℕ, false, List}
 use Rattle.tally.specs.declared.rows.Head.{Head}
 use Rattle.tally.specs.declared.rows.Row.{Row}
 use Rattle.keeper.specs.declared.entry.Entry.{Entry}
@@ -12,6 +12,7 @@ use Rattle.traces.specs.declared.calls.Call.{Call}
 use Rattle.traces.specs.declared.calls.Call.TheVariants.{Count, List as ListAt}
 use Rattle.traces.specs.Account.{Terms, Account}
 use Rattle.traces.specs.Model.{next}
+use Rattle.traces.specs.Sequences.{AllMeet}
 
 module _ {K : Type 0} where
   -- a count that is answered has its key's bracket, and a list that is answered its threshold's entries; of other answers nothing is said
@@ -20,11 +21,9 @@ module _ {K : Type 0} where
   Gives bracket listing (ListAt threshold) (Listed entries) = entries ≡ listing threshold
   Gives bracket listing call answer = Unit {0}
 
-  -- each answer to calls gives what follows from past and window of the account as it is then
+  -- calls have one answer each, which gives what follows from past and window of the account as it is then
   abbrev pub AllGive : (List K → List K → K → ℕ × ℕ) → (List K → List K → ℕ → List (Entry K)) → Terms → Account K → List (Call K) → List (Answer (List (Entry K))) → Type 0
-  AllGive counts lists t a (call ∷ calls) (answer ∷ answers) =
-      Gives (counts a.past a.window) (lists a.past a.window) call answer × AllGive counts lists t (next t a call) calls answers
-  AllGive counts lists t a calls answers = Unit {0}
+  AllGive counts lists t a calls answers = AllMeet (next t) (λ a call answer. Gives (counts a.past a.window) (lists a.past a.window) call answer) a calls answers
 
 module _ {P K : Type 0} (figures : P → Figures) (holds : P → List (Row K) → List Head → List K → List K → Type 0)
     (bracket : P → List (Row K) → List Head → K → ℕ × ℕ) (listing : P → List (Row K) → List Head → ℕ → List (Entry K)) where

@@ -1,5 +1,5 @@
 -- The reference model: what each call of a trace has to answer, and what it makes of the account. It is fed the terms and the calls, and no answer. Assumes nothing.
-use Rattle.std.specs.Prelude.{◌≡◌, ℕ, ◌<◌, ◌≤◌, Bool, if◌then◌else◌, List, [], ◌∷◌, length, Ok, Err, Result}
+use Rattle.std.specs.Prelude.{◌≡◌, ℕ, ◌<◌, ◌≤◌, Bool, if◌then◌else◌, List, fold, length, Ok, Err, Result}
 use Rattle.likeness.specs.Counts.{true_count}
 use Rattle.keeper.specs.declared.entry.Entry.{Entry}
 use Rattle.keeper.specs.declared.refusal.Refusal.{Refusal}
@@ -14,6 +14,7 @@ use Rattle.traces.specs.declared.calls.Answer.TheVariants.{Done, Refused, Counte
 use Rattle.traces.specs.declared.calls.Call.{Call}
 use Rattle.traces.specs.declared.calls.Call.TheVariants.{Fix, Put, DropOldest, Turn, Slide, Count, List as ListAt}
 use Rattle.traces.specs.Account.{Terms, State, keeping, filling, sliding, Account, figures_of, took, let_go, turned_to}
+use Rattle.traces.specs.Sequences.{AllMeet}
 
 -- what is due at a call: nothing, since the state has no such call; a refusal; that the account becomes another; or a right count, or a right list
 pub data Due (K : Type 0) : Type 0 where
@@ -79,8 +80,7 @@ module _ {K : Type 0} where
 
   -- the account after calls
   abbrev pub after : Terms → Account K → List (Call K) → Account K
-  after t a [] = a
-  after t a (call ∷ calls) = after t (next t a call) calls
+  after t a calls = fold (next t) a calls
 
   module _ (alike : K → K → Bool) where
     -- a count is right for the window as it is
@@ -104,7 +104,4 @@ module _ {K : Type 0} where
 
     -- calls have one answer each, the one that is due by the account as it is then
     abbrev pub Conform : Terms → ℕ → Account K → List (Call K) → List (Answer (List (Entry K))) → Type 0
-    Conform t room a [] [] = Unit {0}
-    Conform t room a [] (answer ∷ answers) = ⊥
-    Conform t room a (call ∷ calls) [] = ⊥
-    Conform t room a (call ∷ calls) (answer ∷ answers) = Meets t a room (due t a call) answer × Conform t room (next t a call) calls answers
+    Conform t room a calls answers = AllMeet (next t) (λ a call answer. Meets t a room (due t a call) answer) a calls answers

@@ -1,0 +1,10 @@
+-- Calls made one after the other, and their answers, each judged by the account as it is then. Assumes nothing.
+use Rattle.std.specs.Prelude.{List, [], ◌∷◌}
+
+-- `next` is the account after one call, so `fold next` is the account after all of them; `meets` says which answers are right
+module _ {A C R : Type 0} (next : A → C → A) (meets : A → C → R → Type 0) where
+  -- calls have one answer each, which is right by the account as it is then
+  abbrev pub AllMeet : A → List C → List R → Type 0
+  AllMeet a [] [] = Unit {0}
+  AllMeet a (call ∷ calls) (answer ∷ answers) = meets a call answer × AllMeet (next a call) calls answers
+  AllMeet a calls answers = ⊥
