@@ -1,6 +1,3 @@
-mod Addresses
-mod Moves
 mod Pieces
 mod Reports
-mod Settled
 mod Streams

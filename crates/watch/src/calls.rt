@@ -1,6 +1,6 @@
 //! The calls of a watch.
 
-ghost use Rattle.std.specs.Prelude.{◌≡◌, ℕ, ◌+◌, ◌≤◌, List, [], ◌++◌, string_bytes, OnOk, ◌==◌};
+ghost use Rattle.std.specs.Prelude.{◌≡◌, ℕ, ◌+◌, ◌≤◌, List, [], ◌++◌, string_bytes, IfOk, OnOk, ◌==◌};
 ghost use Rattle.lines.specs.Lines.{CutRight};
 ghost use Rattle.watch.specs.Progress.{byte_texts, bytes_text, bytes_values, Fed, last_text, start, take_byte, take_bytes};
 ghost use Rattle.watch.specs.Report.{lines_report, most_lines, report, values_of};
@@ -9,21 +9,21 @@ use crate::counter::Counter;
 use crate::treat::Counts;
 use crate::{MOST_LINES, Watch};
 use lines::{Cutter, LF};
-use std::alloc::AllocError;
+use std::alloc::{AllocError, Global};
 
 impl<C: Counter> Watch<C> {
     /// A watch at the start of an input.
-    pub fn new() -> Watch<C>
-        ensures value { result.progress ≡ start }
-        ensures fed { Fed C.reading C.holds result [] [] }
+    pub fn new(heap: Global) -> Result<Watch<C>, AllocError>
+        ensures value { IfOk result (λ watch. watch.progress ≡ start) }
+        ensures fed { IfOk result (λ watch. Fed C.reading C.holds watch [] []) }
     {
-        Watch {
+        Ok(Watch {
             cutter: Cutter::new(),
             counts: Counts {
                 lines: 0,
-                counter: C::new(),
+                counter: C::new(heap)?,
             },
-        }
+        })
     }
 
     // Takes one byte: an LF ends the line under way, which is treated then.

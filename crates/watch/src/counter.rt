@@ -1,11 +1,11 @@
 //! What makes a type a counter.
 
-ghost use Rattle.std.specs.Prelude.{◌≡◌, ℕ, List, [], ◌++◌, take, Result, OnOk, string_bytes};
+ghost use Rattle.std.specs.Prelude.{◌≡◌, ℕ, List, [], ◌++◌, take, Result, IfOk, OnOk, string_bytes};
 ghost use Rattle.sentences.specs.declared.error.SentenceError.{SentenceError};
 ghost use Rattle.watch.specs.Counters.{Takes};
 
 use sentences::SentenceError;
-use std::alloc::AllocError;
+use std::alloc::{AllocError, Global};
 
 /// What a program reads of its lines, and what it says at the end of all that it read.
 pub trait Counter: Drop {
@@ -24,9 +24,9 @@ pub trait Counter: Drop {
     // What is printed at the end about these values.
     ghost ending: { List Self.Value → List ℕ };
 
-    /// A counter to which nothing has come.
-    fn new() -> Self
-        ensures { (came result ≡ 0) × holds result [] };
+    /// A counter to which nothing has come. What it needs of memory, it takes from the heap.
+    fn new(heap: Global) -> Result<Self, AllocError>
+        ensures { IfOk result (λ counter. (came counter ≡ 0) × holds counter []) };
 
     /// Reads the text of a line, or the first 81 bytes of it.
     fn read(text: &[u8]) -> Result<Self::Value, SentenceError>

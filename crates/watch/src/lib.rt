@@ -10,16 +10,10 @@ use std::marker::Model;
 
 mod calls;
 mod counter;
-mod kinds;
-mod latest;
-mod readings;
 mod stream;
 mod treat;
 
 pub use counter::Counter;
-pub use kinds::Kinds;
-pub use latest::Latest;
-pub use readings::Readings;
 pub use stream::run;
 use treat::Counts;
 
@@ -33,12 +27,6 @@ pub struct Watch<C: Counter> {
     counts: Counts<C>,
 }
 
-/// What bedwatch says: how many lines are readings.
-pub type Bedwatch = Watch<Readings>;
-
-/// What linewatch says: which kinds of sentence are many.
-pub type Linewatch = Watch<Kinds>;
-
 // A watch is how far it has come, and its counter.
 impl<C: Counter> Model for Watch<C> {
     ghost use Rattle.watch.specs.Progress.{Watched};
@@ -47,6 +35,3 @@ impl<C: Counter> Model for Watch<C> {
 
     ghost view = { λ watch. record { progress = record { kept = watch.cutter; lines = watch.counts.lines }; counter = watch.counts.counter } };
 }
-
-#[cfg(test)]
-mod tests;

@@ -49,7 +49,7 @@ pub fn run<C: Counter, R: Read, W: Write>(
 {
     let mut piece = vec![in heap; 0u8; PIECE]?;
     let mut out = String::with_capacity(heap, PIECE)?;
-    let mut watch = Watch::<C>::new();
+    let mut watch = Watch::<C>::new(heap)?;
     // The pieces are counted, since every function has to end.
     for _ in 0..u64::MAX {
         if watch.is_done() {

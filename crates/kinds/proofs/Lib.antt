@@ -1,0 +1,2 @@
+mod Addresses
+mod Settled

@@ -1,0 +1,142 @@
+//! A window of the latest keys, which fills and then slides by itself.
+
+ghost use Rattle.std.specs.Prelude.{◌≡◌};
+ghost use Rattle.keeper.specs.Rules.{Listed};
+ghost use Rattle.windows.specs.Windows.{Made};
+ghost use Rattle.latest.specs.Latest.{Taken};
+
+use keeper::{Entry, Keeper, Record, Refusal};
+use likeness::Likeness;
+use std::marker::Model;
+use tally::{Head, Row};
+use windows::{Filling, Returned, Sliding, WindowRefusal};
+
+/// A fixed window that turns as soon as it has its size: it holds the latest keys of all that came.
+// By value, since a window that turns is another one from then on.
+#[derive(Drop)]
+pub struct Latest<P: Record> {
+    state: State<P>,
+}
+
+#[derive(Drop)]
+enum State<P: Record> {
+    Filling(Filling<P>),
+    Sliding(Sliding<P>),
+}
+
+impl<P: Record> Model for Latest<P> {
+    ghost use Rattle.windows.specs.Fixed.{Fixed};
+
+    ghost Value = { Fixed P };
+
+    ghost use Rattle.latest.specs.States.{fixed_of, IsSettled};
+
+    ghost view = { λ w. fixed_of w.state };
+
+    ghost invariant = { λ w. IsSettled P.Record.figures w.state };
+}
+
+impl<P: Record> State<P> {
+    ghost use Rattle.std.specs.Prelude.{◌≤◌, true, false};
+    ghost use Rattle.latest.specs.States.{fixed_of, IsSettled, Moved, slides};
+
+    // It slides from now on, if it has its size.
+    fn turned(self) -> State<P>
+        requires some { 1 ≤ (fixed_of self).goal }
+        requires filling { slides self ≡ false → (P.Record.figures (fixed_of self).keeper).size ≤ (fixed_of self).goal }
+        requires sliding { slides self ≡ true → (P.Record.figures (fixed_of self).keeper).size ≡ (fixed_of self).goal }
+        ensures same { fixed_of result ≡ fixed_of self }
+        ensures settled { IsSettled P.Record.figures result }
+    {
+        match self {
+            State::Filling(window) => match window.turn() {
+                Ok(window) => State::Sliding(window),
+                Err(back) => State::Filling(back.value),
+            },
+            State::Sliding(window) => State::Sliding(window),
+        }
+    }
+
+    // A put while it fills, and then a slide.
+    fn put<K: Likeness>(
+        &mut self,
+        rows: &mut [Row<K>],
+        heads: &mut [Head],
+        key: K,
+    ) -> Result<(), Refusal>
+    where
+        P: Keeper<K>,
+        ensures { Moved P.Record.figures P.Keeper.holds P.Record.need self.old rows.old heads.old key result self.new rows.new heads.new }
+    {
+        match self {
+            State::Filling(window) => window.put(rows, heads, key),
+            State::Sliding(window) => window.slide(rows, heads, key),
+        }
+    }
+}
+
+impl<P: Record> Latest<P> {
+    /// An empty window on a keeper, which is to hold the latest `goal` keys. As for `Filling`, the size is from 1 to 2^span − 1,
+    /// and the keeper's window is empty. Otherwise the keeper is handed back.
+    pub fn new(keeper: P, goal: u32) -> Result<Latest<P>, Returned<P>>
+        ensures { Made P.Record.figures keeper goal result }
+    {
+        let window = Filling::new(keeper, goal)?;
+        Ok(Latest {
+            state: State::Filling(window),
+        })
+    }
+
+    /// How many keys the window holds.
+    pub fn size(&self) -> u32
+        ensures { result ≡ (P.Record.figures self.now.keeper).size }
+    {
+        match &self.state {
+            State::Filling(window) => window.size(),
+            State::Sliding(window) => window.size(),
+        }
+    }
+
+    /// One key more: once the window has its size, the oldest goes for it. Refused where a table is too short or 2^30 puts were
+    /// accepted, and then the window is handed back.
+    pub fn take<K: Likeness>(
+        self,
+        rows: &mut [Row<K>],
+        heads: &mut [Head],
+        key: K,
+    ) -> Result<Latest<P>, Returned<Latest<P>>>
+    where
+        P: Keeper<K>,
+        ensures { Taken P.Record.figures P.Keeper.holds P.Record.need self rows.old heads.old key result rows.new heads.new }
+    {
+        let Latest { mut state } = self;
+        match state.put(rows, heads, key) {
+            Ok(()) => Ok(Latest {
+                state: state.turned(),
+            }),
+            Err(refusal) => Err(Returned {
+                value: Latest { state },
+                refusal: WindowRefusal::Keeper(refusal),
+            }),
+        }
+    }
+
+    /// The keeper's list at a threshold.
+    pub fn list<K: Likeness>(
+        &self,
+        rows: &[Row<K>],
+        heads: &[Head],
+        threshold: u32,
+        list: &mut [Entry<K>],
+    ) -> Result<usize, Refusal>
+    where
+        P: Keeper<K>,
+        ensures { Listed P.Record.figures P.Keeper.holds P.Record.need K.Likeness.alike P.Keeper.bracket P.Keeper.listing
+            self.now.keeper rows.now heads.now threshold list.old result list.new }
+    {
+        match &self.state {
+            State::Filling(window) => window.list(rows, heads, threshold, list),
+            State::Sliding(window) => window.list(rows, heads, threshold, list),
+        }
+    }
+}
