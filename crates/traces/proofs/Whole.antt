@@ -20,7 +20,7 @@ use Rattle.traces.proofs.Progress.{SoFar, all_meet_weaker, so_far_step}
 module _ {P K : Type 0} (figures : P → Figures) (holds : P → List (Row K) → List Head → List K → List K → Type 0) (need : ℕ → ℕ → Lengths) (alike : K → K → Bool)
     (bracket : P → List (Row K) → List Head → K → ℕ × ℕ) (listing : P → List (Row K) → List Head → ℕ → List (Entry K)) where
   -- one call, wherever a trace has come to: it does what is due
-  step_due : {t : Terms} {a : Account K} {s s' : Stage P} {rows rows' : List (Row K)} {heads heads' : List Head} {list list' : List (Entry K)} {call : Call K} {answer : Answer ℕ}
+  pub step_due : {t : Terms} {a : Account K} {s s' : Stage P} {rows rows' : List (Row K)} {heads heads' : List Head} {list list' : List (Entry K)} {call : Call K} {answer : Answer ℕ}
       → Steps figures holds need alike bracket listing s rows heads list call s' answer rows' heads' list' → Follows figures holds need t a s rows heads
       → Meets alike t a (length list) (due t a call) (told_as (λ count. take count list') answer) × Follows figures holds need t (next t a call) s' rows' heads'
   step_due {a} {s} {s'} {rows} {rows'} {heads} {heads'} {list} {list'} {call} {answer} e st =

@@ -7,7 +7,7 @@ ghost use Rattle.traces.specs.Traces.{Runs};
 
 use crate::calls::{Answer, Call};
 use crate::stage::{Stage, Trace};
-use keeper::{Entry, Keeper};
+use keeper::{Entry, Keeper, Record};
 use likeness::Likeness;
 use settings::Setting;
 use std::alloc::{AllocError, Global};
@@ -35,21 +35,25 @@ fn with_entries<K: Likeness>(
     })
 }
 
-// One call, with the entries that it listed.
-fn perform<K: Likeness, P: Keeper<K> + Drop>(
-    stage: Stage<P>,
-    rows: &mut [Row<K>],
-    heads: &mut [Head],
-    list: &mut [Entry<K>],
-    call: Call<K>,
-    heap: Global,
-) -> Result<(Stage<P>, Answer<Vec<Entry<K>>>), AllocError>
-    ensures { IfOk result (λ next. StepsTelling P.Record.figures P.Keeper.holds P.Record.need K.Likeness.alike P.Keeper.bracket P.Keeper.listing stage rows.old heads.old list.old call
-        next.0 (told_as (λ entries. entries.items) next.1) rows.new heads.new list.new) }
-{
-    let (next, answer) = stage.step(rows, heads, list, call);
-    let told = with_entries(answer, list, heap)?;
-    Ok((next, told))
+impl<P: Record> Stage<P> {
+    /// Performs one call as `step` does, and tells a list by its entries, which are kept on the heap.
+    pub fn perform<K: Likeness>(
+        self,
+        rows: &mut [Row<K>],
+        heads: &mut [Head],
+        list: &mut [Entry<K>],
+        call: Call<K>,
+        heap: Global,
+    ) -> Result<(Stage<P>, Answer<Vec<Entry<K>>>), AllocError>
+    where
+        P: Keeper<K> + Drop,
+        ensures { IfOk result (λ next. StepsTelling P.Record.figures P.Keeper.holds P.Record.need K.Likeness.alike P.Keeper.bracket P.Keeper.listing self rows.old heads.old list.old call
+            next.0 (told_as (λ entries. entries.items) next.1) rows.new heads.new list.new) }
+    {
+        let (next, answer) = self.step(rows, heads, list, call);
+        let told = with_entries(answer, list, heap)?;
+        Ok((next, told))
+    }
 }
 
 /// Makes a keeper and performs the calls, each with the tables that the one before it left. Whatever the tables hold, however
@@ -70,7 +74,7 @@ pub fn run_trace<K: Likeness, P: Keeper<K> + Drop>(
     let mut stage = Stage::Keeper(<P as Keeper<K>>::fresh(setting));
     let mut answers = Vec::new(heap);
     for call in calls {
-        let (next, answer) = perform(stage, rows, heads, list, *call, heap)?;
+        let (next, answer) = stage.perform(rows, heads, list, *call, heap)?;
         stage = next;
         answers.push(answer)?;
     }
