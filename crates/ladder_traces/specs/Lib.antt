@@ -1,1 +1,2 @@
 pub mod Exact
+pub mod Soundings

@@ -1,0 +1,55 @@
+-- A keeper's verdict, as a call of a trace. Assumes nothing.
+use Rattle.std.proofs.Common.{◌≡◌, ℕ, Bool, true, false, if◌then◌else◌, List, length, is_ok, Ok, Err, Result, refl, sym, ap, ◌∙◌, subst}
+use Rattle.likeness.specs.Counts.{truly_short}
+use Rattle.likeness.specs.declared.sounding.SoundingKey.{SoundingKey}
+use Rattle.tally.specs.declared.rows.Head.{Head}
+use Rattle.tally.specs.declared.rows.Row.{Row}
+use Rattle.keeper.specs.declared.entry.Entry.{Entry}
+use Rattle.keeper.specs.declared.lengths.Lengths.{Lengths}
+use Rattle.keeper.specs.declared.refusal.Refusal.TheVariants.{ShortTable}
+use Rattle.keeper.specs.Figures.{Figures}
+use Rattle.keeper.specs.Tables.{short}
+use Rattle.verdicts.specs.declared.judgement.Judgement.{Judgement}
+use Rattle.verdicts.specs.declared.refusal.VerdictRefusal.{VerdictRefusal}
+use Rattle.verdicts.specs.declared.refusal.VerdictRefusal.TheVariants.{Class, Keeper}
+use Rattle.verdicts.specs.Refusals.{is_class, verdict_answer}
+use Rattle.verdicts.specs.Rules.{IsRight, Judged}
+use Rattle.verdicts.specs.Verdicts.{judged, sums_below}
+use Rattle.traces.specs.declared.stage.Stage.{Stage}
+use Rattle.traces.specs.Account.{Account, Terms}
+use Rattle.traces.specs.Stages.{Follows, keeper_of}
+use Rattle.sounding_traces.specs.declared.calls.SoundingAnswer.TheVariants.{Verdict}
+use Rattle.sounding_traces.specs.declared.calls.SoundingCall.TheVariants.{Verdict as Ask}
+use Rattle.sounding_traces.specs.Model.{Gives, VerdictRight, admitted}
+
+-- an answer by whether a table is too short and whether there is the class
+abbrev answered : {X : Type 0} → Bool → Bool → X → Result X VerdictRefusal
+answered short there value = if short then Err (Keeper ShortTable) else if there then Ok value else Err Class
+
+module _ {P : Type 0} (figures : P → Figures) (holds : P → List (Row SoundingKey) → List Head → List SoundingKey → List SoundingKey → Type 0) (need : ℕ → ℕ → Lengths)
+    (bracket : P → List (Row SoundingKey) → List Head → SoundingKey → ℕ × ℕ) (listing : P → List (Row SoundingKey) → List Head → ℕ → List (Entry SoundingKey))
+    (t : Terms) (a : Account SoundingKey) (s : Stage P) (rows : List (Row SoundingKey)) (heads : List Head) (sounder : List ℕ) (class : ℕ) where
+  -- what the keeper says in a window of n keys
+  abbrev own : ℕ → Judgement
+  own n = judged n (sums_below (bracket (keeper_of s) rows heads) sounder class)
+
+  abbrev Right : ℕ → Judgement → Type 0
+  Right accuracy j = IsRight accuracy (length a.window) (truly_short a.window sounder class) class j
+
+  -- refused for the tables, refused for the class, or given
+  by_cases : (short there : Bool) (r : Result Judgement VerdictRefusal) → answered short there tt ≡ admitted t class → r ≡ answered short there (own (length a.window))
+      → (is_ok r ≡ true → Right t.accuracy (own (length a.window)))
+      → VerdictRight t a sounder class r × Gives (bracket (keeper_of s) rows heads) (listing (keeper_of s) rows heads) (length a.window) (Ask sounder class) (Verdict r)
+  by_cases true there r admits e right = rw e (sym admits, tt)
+  by_cases false true r admits e right = rw e ((sym admits, refl, right (ap is_ok e)), refl)
+  by_cases false false r admits e right = rw e (sym admits, tt)
+
+  -- wherever the account is followed, the keeper's verdict is due
+  pub verdict_due : (r : Result Judgement VerdictRefusal) → Follows figures holds need t a s rows heads → Judged figures holds need bracket (keeper_of s) rows heads sounder class r
+      → VerdictRight t a sounder class r × Gives (bracket (keeper_of s) rows heads) (listing (keeper_of s) rows heads) (length a.window) (Ask sounder class) (Verdict r)
+  verdict_due r st j =
+      let n = (figures (keeper_of s)).size in
+      let answer : r ≡ verdict_answer t.need t.lent class (own (length a.window)) =
+      j.answer ∙ ap (λ terms. verdict_answer terms.need terms.lent class (own n)) st.terms ∙ ap (λ n. verdict_answer t.need t.lent class (own n)) st.true_to.size in
+      by_cases (short t.need t.lent) (is_class class) r refl answer
+      (λ given. subst (λ n. Right t.accuracy (own n)) st.true_to.size (subst (λ terms. Right terms.accuracy (own n)) st.terms (j.right given a.past a.window st.true_to)))

@@ -1,0 +1,2 @@
+pub mod Given
+pub mod Whole

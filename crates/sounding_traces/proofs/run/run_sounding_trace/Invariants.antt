@@ -1,0 +1,11 @@
+use Rattle.std.proofs.Common.{map, take}
+use Rattle.traces.specs.Stages.{terms_of}
+use Rattle.sounding_traces.specs.Model.{told_as}
+use Rattle.sounding_traces.proofs.Whole.{SoundingsSoFar}
+use Rattle.sounding_traces.proofs.run.run_sounding_trace.Given as goal
+
+abbrev pub invariant-loop-call : goal.invariant-loop-call
+invariant-loop-call g l =
+    SoundingsSoFar g.P.Record.figures g.P.Keeper.holds g.P.Record.need g.P.Keeper.bracket g.P.Keeper.listing
+    (terms_of g.P.Record.need l.fn.setting.accuracy l.fn.setting.span l.initial.rows l.initial.heads) l.initial.rows l.initial.heads l.initial.list
+    (take l.call-index l.calls) l.stage (map (told_as (λ entries. entries.items)) l.answers.items) l.rows l.heads l.list

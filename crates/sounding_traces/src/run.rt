@@ -1,0 +1,84 @@
+//! Whole traces on soundings.
+
+ghost use Rattle.std.specs.Prelude.{◌≡◌, IfOk};
+ghost use Rattle.verdicts.specs.Rules.{Judged};
+ghost use Rattle.traces.specs.Stages.{keeper_of};
+ghost use Rattle.sounding_traces.specs.Model.{told_as};
+ghost use Rattle.sounding_traces.specs.Traces.{Performed, SoundingRuns};
+
+use crate::calls::{SoundingAnswer, SoundingCall};
+use crate::trace::SoundingTrace;
+use keeper::{Entry, Keeper};
+use likeness::SoundingKey;
+use settings::Setting;
+use std::alloc::{AllocError, Global};
+use tally::{Head, Row};
+use traces::Stage;
+use verdicts::{Judgement, VerdictRefusal, verdict};
+
+// The verdict of the keeper, in whatever state the trace stands.
+fn verdict_at<P: Keeper<SoundingKey>>(
+    stage: &Stage<P>,
+    rows: &[Row<SoundingKey>],
+    heads: &[Head],
+    sounder: [u8; 2],
+    class: u8,
+) -> Result<Judgement, VerdictRefusal>
+    ensures { Judged P.Record.figures P.Keeper.holds P.Record.need P.Keeper.bracket (keeper_of stage.now) rows.now heads.now sounder class result }
+{
+    match stage {
+        Stage::Keeper(keeper) => verdict(keeper, rows, heads, sounder, class),
+        Stage::Filling(window) => window.verdict(rows, heads, sounder, class),
+        Stage::Sliding(window) => window.verdict(rows, heads, sounder, class),
+    }
+}
+
+// One call, with the entries that it listed.
+fn perform<P: Keeper<SoundingKey> + Drop>(
+    stage: Stage<P>,
+    rows: &mut [Row<SoundingKey>],
+    heads: &mut [Head],
+    list: &mut [Entry<SoundingKey>],
+    call: SoundingCall,
+    heap: Global,
+) -> Result<(Stage<P>, SoundingAnswer<Vec<Entry<SoundingKey>>>), AllocError>
+    ensures { IfOk result (λ next. Performed P.Record.figures P.Keeper.holds P.Record.need P.Keeper.bracket P.Keeper.listing stage rows.old heads.old list.old call
+        next.0 (told_as (λ entries. entries.items) next.1) rows.new heads.new list.new) }
+{
+    match call {
+        SoundingCall::Plain(call) => {
+            let (next, answer) = stage.perform(rows, heads, list, call, heap)?;
+            Ok((next, SoundingAnswer::Plain(answer)))
+        }
+        SoundingCall::Verdict { sounder, class } => {
+            let judged = verdict_at(&stage, rows, heads, sounder, class);
+            Ok((stage, SoundingAnswer::Verdict(judged)))
+        }
+    }
+}
+
+/// Makes a keeper of soundings and performs the calls, each with the tables that the one before it left. Whatever the tables hold,
+/// however long they are and whichever calls come, each answer is the one that the reference model demands: counts, lists and
+/// verdicts are right for the window as it is then, and all refusals are the numbered ones under their conditions.
+///
+/// The answers are kept on the heap, and want of memory is the one error.
+pub fn run_sounding_trace<P: Keeper<SoundingKey> + Drop>(
+    setting: Setting,
+    rows: &mut [Row<SoundingKey>],
+    heads: &mut [Head],
+    list: &mut [Entry<SoundingKey>],
+    calls: &[SoundingCall],
+    heap: Global,
+) -> Result<SoundingTrace<P>, AllocError>
+    ensures { IfOk result (λ trace. SoundingRuns P.Record.figures P.Keeper.holds P.Record.need P.Keeper.bracket P.Keeper.listing setting.accuracy setting.span
+        calls.now rows.old heads.old list.old trace rows.new heads.new list.new) }
+{
+    let mut stage = Stage::Keeper(<P as Keeper<SoundingKey>>::fresh(setting));
+    let mut answers = Vec::new(heap);
+    for call in calls {
+        let (next, answer) = perform(stage, rows, heads, list, *call, heap)?;
+        stage = next;
+        answers.push(answer)?;
+    }
+    Ok(SoundingTrace { stage, answers })
+}
