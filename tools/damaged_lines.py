@@ -1,12 +1,12 @@
 #!/usr/bin/env python3
 """Makes the inputs that bedwatch and linewatch are run on, and what they must print.
 
-Writes crates/bedwatch/stdin, with good lines and lines damaged in every way,
-and crates/linewatch/stdin, with sentences of several kinds from several
-talkers and damaged lines among them; beside each its stdout, by the rules as
-they are written here, apart from the programs. In bedwatch's each refusal
-comes at every column that it can have. Every run writes the same bytes. Run it
-anywhere: it takes no arguments.
+Writes crates/bedwatch/stdin, with good lines, lines damaged in every way and
+more readings than its window holds, and crates/linewatch/stdin, with sentences
+of several kinds from several talkers and damaged lines among them; beside each
+its stdout, by the rules as they are written here, apart from the programs. In
+bedwatch's each refusal comes at every column that it can have. Every run writes
+the same bytes. Run it anywhere: it takes no arguments.
 """
 
 import random
@@ -19,6 +19,8 @@ GOOD = b"$SDDPT,4.1,-3.6*7A"
 NUMBER = re.compile(rb"[0-9]{1,4}(\.[0-9]{1,2})?")
 ADDRESS_BYTES = b"ABCDEFGHIJKLMNOPQRSTUVWXYZ0123456789"
 HEX_DIGITS = b"0123456789ABCDEF"
+LIMITS = (46, 55, 61, 70, 84, 98)
+ACCURACY, SPAN, SIZE = 1, 9, 256
 FIELD_BYTES = bytes(b for b in range(0x20, 0x7F) if b not in b"$!*")
 
 
@@ -89,6 +91,58 @@ def kinds(addresses):
     # A Counter keeps the order of first places.
     counts = Counter(address[2:] for address in window)
     return [b"kind %s %d %d\n" % (kind, n, n) for kind, n in counts.items() if n >= threshold]
+
+
+def centimetres(number):
+    whole, _, part = number.partition(b".")
+    return 100 * int(whole) + int(part.ljust(2, b"0"))
+
+
+def key(line):
+    """The sounder of a reading, and the band of its clearance."""
+    depth, offset = line[7 : line.index(b"*")].split(b",")[:2]
+    clearance = centimetres(depth) - centimetres(offset[1:])
+    return line[1:3], sum(clearance >= limit for limit in LIMITS)
+
+
+def tally(keys, rows):
+    """How often each key is counted in so many rows, and how often all counts fell."""
+    counts, lost = {}, 0
+    for one in keys:
+        if one in counts or len(counts) < rows:
+            counts[one] = counts.get(one, 0) + 1
+        else:
+            counts = {other: n - 1 for other, n in counts.items() if n > 1}
+            lost += 1
+    return counts, lost
+
+
+def cover(came, window):
+    """The blocks that answer for the latest `window` of the keys that came: their first places, sizes and rows."""
+    top = ACCURACY + 3
+    scale = next(k for k in range(top, SPAN + 1) if window <= 1 << k)
+    smallest = 1 << scale - top
+    at, end = -(-(came - window) // smallest) * smallest, came // smallest * smallest
+    while at < end:
+        level = max(j for j in range(top + 1) if at % (smallest << j) == 0 and at + (smallest << j) <= end)
+        yield at, smallest << level, (top + 1 << level) - 1
+        at += smallest << level
+
+
+def verdicts(keys):
+    """What bedwatch says at the end: how many readings its window holds, and the verdicts from SD's."""
+    window = min(len(keys), SIZE)
+    blocks = list(cover(len(keys), window))
+    tallies = [tally(keys[at : at + size], rows) for at, size, rows in blocks]
+    unknown = sum(lost for _, lost in tallies) + window - sum(size for _, size, _ in blocks)
+    yield b"readings %d\n" % window
+    floor = ceiling = 0
+    for band in range(len(LIMITS)):
+        count = sum(counts.get((b"SD", band), 0) for counts, _ in tallies)
+        floor, ceiling = floor + count, ceiling + count + unknown
+        held, clear = window >= 1 and 4 * floor >= window, 4 * ceiling < window
+        word = b"held" if held else b"clear" if clear else b"unsure"
+        yield b"class %d %s %d %d\n" % (band + 1, word, floor, ceiling)
 
 
 def digits(part):
@@ -225,6 +279,14 @@ def changed_lines():
         yield pick([line, line[:-1] + b"0"])
 
 
+def many_readings():
+    """More readings than the window holds, of two sounders, and shallower from day to day."""
+    chance = random.Random(3)
+    for number in range(700):
+        depth = 480 - number // 10 + int(chance.random() * 20)
+        yield sentence(b"%s,%d.%02d,-3.6" % (b"SDDPT" if number % 4 else b"IIDPT", *divmod(depth, 100)))
+
+
 def damaged_input():
     data = bytearray()
     makers = (
@@ -237,6 +299,7 @@ def damaged_input():
         damaged_bytes,
         long_lines,
         changed_lines,
+        many_readings,
     )
     for number, line in enumerate(line for maker in makers for line in maker()):
         data += line + (b"\r\n" if number % 3 == 0 else b"\n")
@@ -279,9 +342,11 @@ def store(program, data, refusals, ending):
 
 def main():
     data = damaged_input()
-    refusals = [refusal(line) for line in lines_of(data)]
+    lines = lines_of(data)
+    refusals = [refusal(line) for line in lines]
     assert set(refusals) == every_refusal() | {None}
-    store("bedwatch", data, refusals, [b"readings %d\n" % refusals.count(None)])
+    keys = [key(line) for line, refused in zip(lines, refusals) if refused is None]
+    store("bedwatch", data, refusals, list(verdicts(keys)))
     data = line_input()
     lines = lines_of(data)
     refusals = [sentence_refusal(line) for line in lines]
