@@ -1,2 +1,1 @@
 pub mod Following
-pub mod Sounded

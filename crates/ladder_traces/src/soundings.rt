@@ -1,10 +1,10 @@
 //! The run of a trace of soundings on a ladder.
 
 ghost use Rattle.std.specs.Prelude.{IfOk};
+ghost use Rattle.likeness.specs.Agree.{same_sounding};
 ghost use Rattle.keeper.specs.Tables.{lengths};
 ghost use Rattle.ladder.specs.Ladders.{bracket, listing, need_of};
 ghost use Rattle.ladder.specs.Truth.{HoldsWindow};
-ghost use Rattle.sounding_traces.specs.Model.{alike};
 ghost use Rattle.sounding_traces.specs.Traces.{SoundingRuns};
 ghost use Rattle.ladder_traces.specs.Soundings.{SoundingRunsExactly};
 
@@ -28,7 +28,7 @@ pub fn run_sounding_ladder_trace(
     calls: &[SoundingCall],
     heap: Global,
 ) -> Result<SoundingTrace<Ladder>, AllocError>
-    ensures runs { IfOk result (λ trace. SoundingRuns (λ s. s) (HoldsWindow alike) need_of (bracket alike) (listing alike) setting.accuracy setting.span
+    ensures runs { IfOk result (λ trace. SoundingRuns (λ s. s) (HoldsWindow same_sounding) need_of (bracket same_sounding) (listing same_sounding) setting.accuracy setting.span
         calls.now rows.old heads.old list.old trace rows.new heads.new list.new) }
     ensures exactly { IfOk result (λ trace. SoundingRunsExactly setting.accuracy setting.span calls.now (lengths rows.old heads.old) trace rows.new heads.new) }
 {

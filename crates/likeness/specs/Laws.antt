@@ -3,7 +3,7 @@ use Rattle.std.specs.Prelude.{◌≡◌, ℕ, Bool, true, List, Decides, ◌==�
 use Rattle.std.proofs.Common.{sym, ap, ◌∙◌}
 use Rattle.std.proofs.lemmas.Slice.Eq.{bytes_eq-Decides}
 use Rattle.std.proofs.lemmas.Bool.{and_parts, and_from, eqb-true, eq-eqb}
-use Rattle.likeness.specs.Agree.{same_sounder, same_reading, kind_of, same_kind}
+use Rattle.likeness.specs.Agree.{same_sounder, same_sounding, kind_of, same_kind}
 use Rattle.likeness.specs.declared.address.AddressKey.{AddressKey}
 use Rattle.likeness.specs.declared.sounding.SoundingKey.{SoundingKey}
 
@@ -28,7 +28,7 @@ address_decides x y = bytes_eq-Decides (address_part x) (address_part y)
 abbrev pub sounding_part : SoundingKey → ℕ × ℕ × ℕ
 sounding_part x = (slice_index x.sounder 0, slice_index x.sounder 1, x.band)
 
-pub sounding_decides : (x y : SoundingKey) → Decides (same_reading x.sounder x.band y.sounder y.band) (sounding_part x ≡ sounding_part y)
+pub sounding_decides : (x y : SoundingKey) → Decides (same_sounding x y) (sounding_part x ≡ sounding_part y)
 sounding_decides x y = (
   (λ h.
       let both = and_parts (same_sounder x.sounder y.sounder) (x.band == y.band) h in

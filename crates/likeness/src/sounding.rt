@@ -1,7 +1,7 @@
 //! Keys for readings of the depth.
 
 ghost use Rattle.std.specs.Prelude.{◌≡◌};
-ghost use Rattle.likeness.specs.Agree.{same_reading, same_sounder};
+ghost use Rattle.likeness.specs.Agree.{same_sounder, same_sounding};
 ghost use Rattle.likeness.specs.Laws;
 ghost use Rattle.likeness.specs.Laws.{sounding_part, sounding_decides};
 
@@ -26,7 +26,7 @@ impl SoundingKey {
 
 /// Sounding keys count as one when they are readings of one sounder in one band.
 impl Likeness for SoundingKey {
-    ghost alike = { λ x y. same_reading x.sounder x.band y.sounder y.band };
+    ghost alike = { same_sounding };
 
     ghost reflexive = { Laws.reflexive sounding_part _ sounding_decides };
 

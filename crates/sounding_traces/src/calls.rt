@@ -9,15 +9,15 @@ use verdicts::{Judgement, VerdictRefusal};
 pub enum SoundingCall {
     /// One that keepers of all kinds of key have.
     Plain(Call<SoundingKey>),
-    /// A verdict on a class, from a sounder's readings. Every state has it.
-    Verdict { sounder: [u8; 2], class: u8 },
+    /// Asks for the verdict on a class, from a sounder's readings. Every state has it.
+    Ask { sounder: [u8; 2], class: u8 },
 }
 
 /// What a call of a trace on soundings answers. Of a list it tells an `L`.
 #[derive(Debug, Drop)]
 pub enum SoundingAnswer<L> {
     /// What a plain call answers.
-    Plain(Answer<L>),
-    /// A verdict, or why there is none.
-    Verdict(Result<Judgement, VerdictRefusal>),
+    Answered(Answer<L>),
+    /// A verdict with its sums, or why there is none.
+    Judged(Result<Judgement, VerdictRefusal>),
 }

@@ -42,17 +42,18 @@ fn perform<P: Keeper<SoundingKey> + Drop>(
     call: SoundingCall,
     heap: Global,
 ) -> Result<(Stage<P>, SoundingAnswer<Vec<Entry<SoundingKey>>>), AllocError>
-    ensures { IfOk result (λ next. Performed P.Record.figures P.Keeper.holds P.Record.need P.Keeper.bracket P.Keeper.listing stage rows.old heads.old list.old call
-        next.0 (told_as (λ entries. entries.items) next.1) rows.new heads.new list.new) }
+    ensures { IfOk result (λ next. Performed P.Record.figures P.Keeper.holds P.Record.need P.Keeper.bracket P.Keeper.listing
+        (record { stage = stage; rows = rows.old; heads = heads.old; list = list.old }) call (told_as (λ entries. entries.items) next.1)
+        (record { stage = next.0; rows = rows.new; heads = heads.new; list = list.new })) }
 {
     match call {
         SoundingCall::Plain(call) => {
             let (next, answer) = stage.perform(rows, heads, list, call, heap)?;
-            Ok((next, SoundingAnswer::Plain(answer)))
+            Ok((next, SoundingAnswer::Answered(answer)))
         }
-        SoundingCall::Verdict { sounder, class } => {
+        SoundingCall::Ask { sounder, class } => {
             let judged = verdict_at(&stage, rows, heads, sounder, class);
-            Ok((stage, SoundingAnswer::Verdict(judged)))
+            Ok((stage, SoundingAnswer::Judged(judged)))
         }
     }
 }

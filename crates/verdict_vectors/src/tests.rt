@@ -30,13 +30,13 @@ fn put(sounder: [u8; 2], clearance: i32) -> SoundingCall {
 }
 
 fn ask(class: u8) -> SoundingCall {
-    SoundingCall::Verdict {
+    SoundingCall::Ask {
         sounder: *b"SD",
         class,
     }
 }
 
-// Floors and ceilings are equal: the window is short enough for a ladder to be exact.
+// What is said where floors and ceilings are equal, as a ring's always are, and a ladder's in windows of up to 16.
 fn says(size: u32, sum: u64) -> Result<Judgement, VerdictRefusal> {
     Ok(Judgement::of(size, sum, sum))
 }
@@ -49,7 +49,7 @@ fn are_verdicts(
 ) {
     let mut named = 0;
     for answer in answers {
-        if let SoundingAnswer::Verdict(judged) = answer {
+        if let SoundingAnswer::Judged(judged) = answer {
             assert!(rt; named < wanted.len());
             assert_eq!(rt; *judged, wanted[named]);
             named += 1;
@@ -97,7 +97,13 @@ fn wanted() -> [Result<Judgement, VerdictRefusal>; 9] {
     ]
 }
 
-fn on<P: Keeper<SoundingKey> + Drop>(rt: &impl Abort, heap: Global) -> Result<(), Fail> {
+// Performs calls on a keeper, in tables that were used before.
+fn on<P: Keeper<SoundingKey> + Drop>(
+    rt: &impl Abort,
+    heap: Global,
+    calls: &[SoundingCall],
+    wanted: &[Result<Judgement, VerdictRefusal>],
+) -> Result<(), Fail> {
     let row = Row {
         key: reading(*b"SD", 40),
         count: 9,
@@ -105,15 +111,35 @@ fn on<P: Keeper<SoundingKey> + Drop>(rt: &impl Abort, heap: Global) -> Result<()
     let mut rows = vec![in heap; row; ROWS]?;
     let mut heads = vec![in heap; EMPTY; HEADS]?;
     let setting = Setting::new(1, 5)?;
-    let trace = run_sounding_trace::<P>(setting, &mut rows, &mut heads, &mut [], &calls(), heap)?;
-    are_verdicts(rt, trace.answers.as_slice(), &wanted());
+    let trace = run_sounding_trace::<P>(setting, &mut rows, &mut heads, &mut [], calls, heap)?;
+    are_verdicts(rt, trace.answers.as_slice(), wanted);
     Ok(())
 }
 
 #[test]
 fn verdicts_in_every_state(rt: HostRuntime) -> Result<(), Fail> {
-    on::<Ring>(&rt, rt.alloc())?;
-    on::<Ladder>(&rt, rt.alloc())
+    on::<Ring>(&rt, rt.alloc(), &calls(), &wanted())?;
+    on::<Ladder>(&rt, rt.alloc(), &calls(), &wanted())
+}
+
+// Seventeen readings, of which four were too shallow for every class: just less than a quarter. Of the seventeenth the ladder cannot say
+// what it was, so it is unsure where the ring is not. The other sounder's are none.
+#[test]
+fn a_ladder_that_is_unsure(rt: HostRuntime) -> Result<(), Fail> {
+    let mut calls = vec![in rt.alloc(); put(*b"SD", 100); 17]?;
+    calls[3] = put(*b"SD", 45);
+    calls[5] = put(*b"SD", 40);
+    calls[7] = put(*b"SD", 0);
+    calls[11] = put(*b"SD", -60);
+    calls.push(ask(1))?;
+    calls.push(SoundingCall::Ask {
+        sounder: *b"II",
+        class: 1,
+    })?;
+    on::<Ring>(&rt, rt.alloc(), &calls, &[says(17, 4), says(17, 0)])?;
+    let between = Ok(Judgement::of(17, 4, 5));
+    let silent = Ok(Judgement::of(17, 0, 1));
+    on::<Ladder>(&rt, rt.alloc(), &calls, &[between, silent])
 }
 
 // A table that is too short is told before a class that does not exist.

@@ -2,7 +2,7 @@
 use Rattle.std.proofs.Common.{◌≡◌, ℕ, zero, suc, ◌+◌, ◌-◌, ◌*◌, ◌^◌, List, refl, ap, add-mul, mul-add, arith}
 use Rattle.keeper.specs.Rules.{Bracket}
 use Rattle.verdicts.specs.Rules.{Sums}
-use Rattle.likeness.specs.Agree.{same_reading}
+use Rattle.likeness.specs.Agree.{same_sounding}
 use Rattle.likeness.specs.Counts.{true_count, truly_short}
 use Rattle.likeness.specs.declared.sounding.SoundingKey.{SoundingKey}
 use Rattle.verdicts.specs.Verdicts.{added, sums_below}
@@ -34,7 +34,7 @@ module _ (a n : ℕ) (window : List SoundingKey) (sounder : List ℕ) where
   short_sums_none = rw (short_none window sounder) (sums_none a n)
 
   pub short_sums_more : (band : ℕ) (sums bracket : ℕ × ℕ) → Sums a n (truly_short window sounder band) band sums
-      → Bracket a n (true_count (λ x y. same_reading x.sounder x.band y.sounder y.band) window (record { sounder = sounder; band = band })) bracket
+      → Bracket a n (true_count same_sounding window (record { sounder = sounder; band = band })) bracket
       → Sums a n (truly_short window sounder (band + 1)) (band + 1) (added sums bracket)
   short_sums_more band sums bracket s b = rw (short_more window sounder band) (sums_more a n (truly_short window sounder band) band _ sums bracket s b)
 

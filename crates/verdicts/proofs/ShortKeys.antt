@@ -3,7 +3,7 @@ use Rattle.std.proofs.Common.{◌≡◌, ℕ, ◌+◌, suc, Bool, true, false, �
 use Rattle.std.specs.List.{count_by}
 use Rattle.std.proofs.lemmas.Bool.Decides.{nat_tests}
 use Rattle.std.proofs.lemmas.List.Sums.{sum_by-cons}
-use Rattle.likeness.specs.Agree.{same_reading, same_sounder}
+use Rattle.likeness.specs.Agree.{same_sounding, same_sounder}
 use Rattle.likeness.specs.Counts.{short_for, true_count, truly_short}
 use Rattle.likeness.specs.declared.sounding.SoundingKey.{SoundingKey}
 
@@ -38,7 +38,7 @@ short_none (key ∷ window) sounder =
     omega (arith, sum_by-cons (λ k. cond (short_for sounder 0 k) 1 0) key window, band_none (same_sounder key.sounder sounder) key.band, short_none window sounder)
 
 pub short_more : (window : List SoundingKey) (sounder : List ℕ) (band : ℕ)
-    → truly_short window sounder (band + 1) ≡ truly_short window sounder band + true_count (λ x y. same_reading x.sounder x.band y.sounder y.band) window (record { sounder = sounder; band = band })
+    → truly_short window sounder (band + 1) ≡ truly_short window sounder band + true_count same_sounding window (record { sounder = sounder; band = band })
 short_more window sounder band =
     ap (truly_short window sounder) (next band)
     ∙ count_parts (short_for sounder (suc band)) (short_for sounder band) _ (λ key. band_parts (same_sounder key.sounder sounder) key.band band) window

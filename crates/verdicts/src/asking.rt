@@ -5,6 +5,7 @@ ghost use Rattle.likeness.specs.Counts.{truly_short};
 ghost use Rattle.likeness.specs.declared.sounding.SoundingKey.{SoundingKey};
 ghost use Rattle.keeper.specs.Rules.{TrueTo};
 ghost use Rattle.keeper.specs.Tables.{lengths, needed, short};
+ghost use Rattle.verdicts.specs.Cases.{AskingCases};
 ghost use Rattle.verdicts.specs.Rules.{Judged, Sums};
 ghost use Rattle.verdicts.specs.Verdicts.{sums_below};
 
@@ -44,8 +45,9 @@ fn sum_below<P: Keeper<SoundingKey>>(
     Ok((floors, ceilings))
 }
 
-/// Whether a ferry of this class can come in: from the keeper's counts of the sounder's bands that are too shallow for it.
-/// Refused where a table is too short, or where the class is not from 1 to 6.
+/// Whether a ferry of this class can come in: from the keeper's counts of the sounder's keys in the bands that are too shallow for it,
+/// beside how many keys the window holds, of all sounders. Refused 4 where a table is too short, else 11 where the class is not from
+/// 1 to 6.
 ///
 /// `windows::Filling` and `windows::Sliding` have it as a method.
 pub fn verdict<P: Keeper<SoundingKey>>(
@@ -55,7 +57,8 @@ pub fn verdict<P: Keeper<SoundingKey>>(
     sounder: [u8; 2],
     class: u8,
 ) -> Result<Judgement, VerdictRefusal>
-    ensures { Judged P.Record.figures P.Keeper.holds P.Record.need P.Keeper.bracket keeper.now rows.now heads.now sounder class result }
+    ensures judged { Judged P.Record.figures P.Keeper.holds P.Record.need P.Keeper.bracket keeper.now rows.now heads.now sounder class result }
+    ensures worked { AskingCases }
 {
     admit_tables(keeper, Lengths::of(rows, heads))?;
     if !(FIRST_CLASS..=LAST_CLASS).contains(&class) {

@@ -6,14 +6,14 @@ ghost use Rattle.verdicts.specs.Verdicts.{judged, judgement_text, verdict_text};
 
 use std::fmt;
 
-/// What is said of a class, where a quarter of the window's soundings is too many to be too shallow for it.
+/// What is said of a class: whether a quarter of the window's soundings, or more, were too shallow for it.
 #[derive(Clone, Copy, PartialEq, Eq, Debug)]
 pub enum Verdict {
-    /// A quarter or more were too shallow: a ferry of this class is held.
+    /// A quarter or more were: a ferry of this class is held.
     Held,
     /// Less than a quarter were: the berth is clear for it.
     Clear,
-    /// The counts are too far apart to say either, or there is no sounding.
+    /// The counts are too far apart to say either, or the window is empty.
     Unsure,
 }
 

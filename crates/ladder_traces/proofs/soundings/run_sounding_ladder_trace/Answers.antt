@@ -1,5 +1,5 @@
 use Rattle.std.proofs.lemmas.Result.{IfOk-weaker}
-use Rattle.ladder_traces.proofs.Sounded.{sounding_runs_exactly}
+use Rattle.ladder_traces.proofs.Following.{sounding_runs_exactly}
 use Rattle.ladder_traces.proofs.soundings.run_sounding_ladder_trace.Goals as goal
 
 pub returns-clause-exactly : goal.returns-clause-exactly

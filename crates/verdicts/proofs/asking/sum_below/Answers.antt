@@ -1,5 +1,5 @@
 use Rattle.std.proofs.Common.{rules, ◌≡◌, ℕ, ◌+◌, length, Ok, refl, sym, ap, ◌∙◌, subst}
-use Rattle.likeness.specs.Agree.{same_reading}
+use Rattle.likeness.specs.Agree.{same_sounding}
 use Rattle.likeness.specs.Counts.{true_count, truly_short}
 use Rattle.likeness.specs.declared.sounding.SoundingKey.{SoundingKey}
 use Rattle.keeper.specs.Rules.{Bracket}
@@ -38,6 +38,6 @@ loop-number-preserved g c =
       right = λ past window held.
           subst (Sums accuracy (length window) (truly_short window c.args.sounder (number + 1)) (number + 1)) both
           (short_sums_more accuracy (length window) window c.args.sounder number (c.loop-number.floors, c.loop-number.ceilings) (bracket (key number)) (h.right past window held)
-          (subst (λ band. Bracket accuracy (length window) (true_count (λ x y. same_reading x.sounder x.band y.sounder y.band) window (key band)) (bracket (key band))) same
+          (subst (λ band. Bracket accuracy (length window) (true_count same_sounding window (key band)) (bracket (key band))) same
           (c.in_ok-floor.ensures.right past window held)));
     }

@@ -1,8 +1,7 @@
-use Rattle.std.proofs.Common.{rules, tests, ◌≡◌, All, [], sym, ap, ◌∙◌, subst, arith, length}
+use Rattle.std.proofs.Common.{rules, tests, ◌≡◌, All, [], ap, subst, arith, length}
 use Rattle.std.proofs.lemmas.List.{nil_from_length}
 use Rattle.std.proofs.lemmas.List.Elements.{All-head, All-tail}
 use Rattle.layout.specs.Laws.{IsBlock}
-use Rattle.tally.specs.Slots.{held}
 use Rattle.ladder.proofs.CoverKeys.{left_block, left_none, left_row, live_is}
 use Rattle.ladder.proofs.keys.KeysIterator.next.Goals as goal
 

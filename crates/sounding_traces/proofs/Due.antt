@@ -1,5 +1,5 @@
 -- A keeper's verdict, as a call of a trace. Assumes nothing.
-use Rattle.std.proofs.Common.{◌≡◌, ℕ, Bool, true, false, if◌then◌else◌, List, length, is_ok, Ok, Err, Result, refl, sym, ap, ◌∙◌, subst}
+use Rattle.std.proofs.Common.{◌≡◌, ℕ, Bool, true, false, if◌then◌else◌, List, length, Ok, Err, Result, refl, sym, ap, ◌∙◌, subst}
 use Rattle.likeness.specs.Counts.{truly_short}
 use Rattle.likeness.specs.declared.sounding.SoundingKey.{SoundingKey}
 use Rattle.tally.specs.declared.rows.Head.{Head}
@@ -13,13 +13,16 @@ use Rattle.verdicts.specs.declared.judgement.Judgement.{Judgement}
 use Rattle.verdicts.specs.declared.refusal.VerdictRefusal.{VerdictRefusal}
 use Rattle.verdicts.specs.declared.refusal.VerdictRefusal.TheVariants.{Class, Keeper}
 use Rattle.verdicts.specs.Refusals.{is_class, verdict_answer}
-use Rattle.verdicts.specs.Rules.{IsRight, Judged}
+use Rattle.verdicts.specs.Rules.{IsRight}
+use Rattle.verdicts.specs.Rules as verdicts
 use Rattle.verdicts.specs.Verdicts.{judged, sums_below}
+use Rattle.verdicts.proofs.Adding.{sums_same}
 use Rattle.traces.specs.declared.stage.Stage.{Stage}
 use Rattle.traces.specs.Account.{Account, Terms}
+use Rattle.traces.specs.Determined.{Determined}
 use Rattle.traces.specs.Stages.{Follows, keeper_of}
-use Rattle.sounding_traces.specs.declared.calls.SoundingAnswer.TheVariants.{Verdict}
-use Rattle.sounding_traces.specs.declared.calls.SoundingCall.TheVariants.{Verdict as Ask}
+use Rattle.sounding_traces.specs.declared.calls.SoundingAnswer.TheVariants.{Judged}
+use Rattle.sounding_traces.specs.declared.calls.SoundingCall.TheVariants.{Ask}
 use Rattle.sounding_traces.specs.Model.{Gives, VerdictRight, admitted}
 
 -- an answer by whether a table is too short and whether there is the class
@@ -36,20 +39,33 @@ module _ {P : Type 0} (figures : P → Figures) (holds : P → List (Row Soundin
   abbrev Right : ℕ → Judgement → Type 0
   Right accuracy j = IsRight accuracy (length a.window) (truly_short a.window sounder class) class j
 
+  -- what is given is the keeper's own
+  abbrev Own : Result Judgement VerdictRefusal → Type 0
+  Own r = (j : Judgement) → r ≡ Ok j → j ≡ own (length a.window)
+
   -- refused for the tables, refused for the class, or given
   by_cases : (short there : Bool) (r : Result Judgement VerdictRefusal) → answered short there tt ≡ admitted t class → r ≡ answered short there (own (length a.window))
-      → (is_ok r ≡ true → Right t.accuracy (own (length a.window)))
-      → VerdictRight t a sounder class r × Gives (bracket (keeper_of s) rows heads) (listing (keeper_of s) rows heads) (length a.window) (Ask sounder class) (Verdict r)
-  by_cases true there r admits e right = rw e (sym admits, tt)
-  by_cases false true r admits e right = rw e ((sym admits, refl, right (ap is_ok e)), refl)
-  by_cases false false r admits e right = rw e (sym admits, tt)
+      → ((j : Judgement) → r ≡ Ok j → Right t.accuracy j) → VerdictRight t a sounder class r × Own r
+  by_cases true there r admits e right = rw e (sym admits, λ j given. cc)
+  by_cases false true r admits e right = rw e ((sym admits, refl, right (own (length a.window)) e), λ j given. cc)
+  by_cases false false r admits e right = rw e (sym admits, λ j given. cc)
 
   -- wherever the account is followed, the keeper's verdict is due
-  pub verdict_due : (r : Result Judgement VerdictRefusal) → Follows figures holds need t a s rows heads → Judged figures holds need bracket (keeper_of s) rows heads sounder class r
-      → VerdictRight t a sounder class r × Gives (bracket (keeper_of s) rows heads) (listing (keeper_of s) rows heads) (length a.window) (Ask sounder class) (Verdict r)
+  pub verdict_due : (r : Result Judgement VerdictRefusal) → Follows figures holds need t a s rows heads → verdicts.Judged figures holds need bracket (keeper_of s) rows heads sounder class r
+      → VerdictRight t a sounder class r × Own r
   verdict_due r st j =
       let n = (figures (keeper_of s)).size in
       let answer : r ≡ verdict_answer t.need t.lent class (own (length a.window)) =
       j.answer ∙ ap (λ terms. verdict_answer terms.need terms.lent class (own n)) st.terms ∙ ap (λ n. verdict_answer t.need t.lent class (own n)) st.true_to.size in
       by_cases (short t.need t.lent) (is_class class) r refl answer
-      (λ given. subst (λ n. Right t.accuracy (own n)) st.true_to.size (subst (λ terms. Right terms.accuracy (own n)) st.terms (j.right given a.past a.window st.true_to)))
+      (λ said given. subst (λ terms. Right terms.accuracy said) st.terms (j.right said given a.past a.window st.true_to))
+
+  -- and follows from the account, where the keeper's counts do
+  module _ (counts : ℕ → ℕ → List SoundingKey → List SoundingKey → SoundingKey → ℕ × ℕ) (lists : ℕ → ℕ → List SoundingKey → List SoundingKey → ℕ → List (Entry SoundingKey)) (determined : Determined figures holds bracket listing counts lists)
+      (st : Follows figures holds need t a s rows heads) where
+    counted : (key : SoundingKey) → bracket (keeper_of s) rows heads key ≡ counts t.accuracy t.span a.past a.window key
+    counted key = determined.counted (keeper_of s) rows heads a.past a.window st.true_to key ∙ ap (λ terms. counts terms.accuracy terms.span a.past a.window key) st.terms
+
+    pub verdict_exact : (r : Result Judgement VerdictRefusal) → Own r → Gives (counts t.accuracy t.span a.past a.window) (lists t.accuracy t.span a.past a.window) (length a.window) (Ask sounder class) (Judged r)
+    verdict_exact (Ok j) own = own j refl ∙ ap (judged (length a.window)) (sums_same (bracket (keeper_of s) rows heads) (counts t.accuracy t.span a.past a.window) counted sounder class)
+    verdict_exact (Err e) own = tt
