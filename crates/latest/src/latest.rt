@@ -2,13 +2,15 @@
 
 ghost use Rattle.std.specs.Prelude.{◌≡◌};
 ghost use Rattle.keeper.specs.Rules.{Listed};
+ghost use Rattle.verdicts.specs.Rules.{Judged};
 ghost use Rattle.windows.specs.Windows.{Made};
 ghost use Rattle.latest.specs.Latest.{Taken};
 
 use keeper::{Entry, Keeper, Record, Refusal};
-use likeness::Likeness;
+use likeness::{Likeness, SoundingKey};
 use std::marker::Model;
 use tally::{Head, Row};
+use verdicts::{Judgement, VerdictRefusal};
 use windows::{Filling, Returned, Sliding, WindowRefusal};
 
 /// A fixed window that turns as soon as it has its size: it holds the latest keys of all that came.
@@ -137,6 +139,25 @@ impl<P: Record> Latest<P> {
         match &self.state {
             State::Filling(window) => window.list(rows, heads, threshold, list),
             State::Sliding(window) => window.list(rows, heads, threshold, list),
+        }
+    }
+
+    /// Whether a ferry of this class can come in, from the keeper's counts of the sounder's keys.
+    pub fn verdict(
+        &self,
+        rows: &[Row<SoundingKey>],
+        heads: &[Head],
+        sounder: [u8; 2],
+        class: u8,
+    ) -> Result<Judgement, VerdictRefusal>
+    where
+        P: Keeper<SoundingKey>,
+        ensures { Judged P.Record.figures P.Keeper.holds P.Record.need P.Keeper.bracket
+            self.now.keeper rows.now heads.now sounder class result }
+    {
+        match &self.state {
+            State::Filling(window) => window.verdict(rows, heads, sounder, class),
+            State::Sliding(window) => window.verdict(rows, heads, sounder, class),
         }
     }
 }
