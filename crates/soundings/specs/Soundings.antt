@@ -17,8 +17,11 @@ use Rattle.latest.specs.WithTables.{HoldsLatestIn, InTables}
 use Rattle.soundings.specs.Printed.{class_text, readings_text}
 
 -- A reading as it is counted: its sounder, and the band of its clearance.
+abbrev pub key_from : Reading → SoundingKey
+key_from reading = record { sounder = reading.sounder; band = band reading.clearance }
+
 abbrev pub as_key : Result Reading SentenceError → Result SoundingKey SentenceError
-as_key (Ok reading) = Ok (record { sounder = reading.sounder; band = band reading.clearance })
+as_key (Ok reading) = Ok (key_from reading)
 as_key (Err error) = Err error
 
 abbrev pub key_of : List ℕ → Result SoundingKey SentenceError

@@ -13,7 +13,7 @@ ghost use Rattle.verdicts.specs.Refusals.{is_class};
 ghost use Rattle.verdicts.specs.Rules.{IsRight};
 ghost use Rattle.latest.specs.Latest.{HoldsLatest, latest};
 ghost use Rattle.soundings.specs.Printed.{class_text};
-ghost use Rattle.soundings.specs.Soundings.{alike, as_key, berth, IsRightFor, judgement_on, key_of, most_soundings, soundings_text};
+ghost use Rattle.soundings.specs.Soundings.{alike, as_key, berth, IsRightFor, judgement_on, key_from, key_of, most_soundings, soundings_text};
 
 use bands::band_of;
 use keeper::Keeper;
@@ -60,6 +60,17 @@ impl Model for Soundings {
     ghost invariant = { λ soundings. IsSet soundings.window };
 }
 
+// A reading as it is counted.
+fn key_from(reading: Reading) -> SoundingKey
+    ensures { result ≡ key_from reading }
+{
+    let Reading { sounder, clearance } = reading;
+    SoundingKey {
+        sounder,
+        band: band_of(clearance),
+    }
+}
+
 fn empty_window() -> Latest<Ladder>
     ensures value { result ≡ record { keeper = newly 1 9; goal = most_soundings } }
     ensures right { (rows : List (Row SoundingKey)) (heads : List Head) → HoldsLatest (λ s. s) (HoldsWindow alike) result rows heads [] [] }
@@ -70,6 +81,14 @@ fn empty_window() -> Latest<Ladder>
 }
 
 impl Soundings {
+    // How many soundings the window holds.
+    #[tactic(auto, using(crate::proofs::Judging::size_is))]
+    fn size(&self) -> u32
+        ensures { (soundings : List SoundingKey) → IsRightFor self.now soundings → result ≡ length (latest most_soundings soundings) }
+    {
+        self.window.size()
+    }
+
     // What the window says of a class.
     fn judgement(&self, class: u8) -> Judgement
         requires there { is_class class ≡ true }
@@ -112,11 +131,8 @@ impl Counter for Soundings {
     }
 
     fn read(text: &[u8]) -> Result<SoundingKey, SentenceError> {
-        let Reading { sounder, clearance } = read_depth(text)?;
-        Ok(SoundingKey {
-            sounder,
-            band: band_of(clearance),
-        })
+        let reading = read_depth(text)?;
+        Ok(key_from(reading))
     }
 
     // 2^30 are more than can come, so no sounding is refused.
@@ -125,7 +141,7 @@ impl Counter for Soundings {
     }
 
     fn print_end(&self, out: &mut String) -> Result<(), AllocError> {
-        writeln!(out, "readings {}", self.window.size())?;
+        writeln!(out, "readings {}", self.size())?;
         for class in FIRST_CLASS..=LAST_CLASS {
             print_class(class, self.judgement(class), out)?;
         }

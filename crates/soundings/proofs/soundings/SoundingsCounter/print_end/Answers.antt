@@ -1,9 +1,8 @@
-use Rattle.std.proofs.Common.{rules, ◌≡◌, ◌≤◌, ◌-◌, ℕ, List, ◌++◌, take, string_bytes, length, append_assoc, sym, ap, ◌∙◌}
+use Rattle.std.proofs.Common.{rules, ◌≡◌, ◌≤◌, ◌-◌, ℕ, List, ◌++◌, take, string_bytes, length, append_assoc, ap, ◌∙◌}
 use Rattle.std.specs.List.{flat_map}
 use Rattle.latest.specs.Latest.{latest}
 use Rattle.soundings.specs.Printed.{class_text, readings_text}
 use Rattle.soundings.specs.Soundings.{classes, judgement_on, most_soundings}
-use Rattle.soundings.proofs.Judging.{size_is}
 use Rattle.soundings.proofs.Lines.{lines_more}
 use Rattle.soundings.proofs.soundings.SoundingsCounter.print_end.Goals as goal
 
@@ -28,8 +27,7 @@ pub returns : goal.returns
 returns c soundings right =
     let line : ℕ → List ℕ = λ k. class_text k (judgement_on soundings k) in
     let all : c.loop-class.class - 1 ≡ 6 = search rules in
-    let same = size_is c.self.inside.window c.self.invariant soundings (rw (sym c.self.view_is) at right) in
     c.loop-class.invariant.text soundings right
     ∙ ap (λ n. string_bytes c.writeln.new.self ++ flat_map line (take n classes)) all
-    ∙ ap (λ t. t ++ flat_map line classes) (c.in_ok-writeln.ensures.bytes ∙ ap (λ n. string_bytes c.args.out.now ++ readings_text n) (c.size.ensures.value ∙ same))
+    ∙ ap (λ t. t ++ flat_map line classes) (c.in_ok-writeln.ensures.bytes ∙ ap (λ n. string_bytes c.args.out.now ++ readings_text n) (c.size.ensures soundings right))
     ∙ append_assoc (string_bytes c.args.out.now) (readings_text (length (latest most_soundings soundings))) (flat_map line classes)
