@@ -10,11 +10,13 @@ use Rattle.sentences.specs.declared.error.SentenceError.{SentenceError}
 use Rattle.sentences.specs.declared.reader.Address.{Address}
 use Rattle.sentences.proofs.Laws.{address_exactly}
 use Rattle.likeness.specs.declared.address.AddressKey.{AddressKey}
+use Rattle.keeper.specs.Figures.{Figures}
 use Rattle.keeper.specs.Listing.{firsts, listed, entry_of}
 use Rattle.keeper.proofs.Listings.{all_firsts}
 use Rattle.likeness.specs.Agree.{same_kind}
 use Rattle.ring.specs.Rings.{exactly, window_of}
-use Rattle.kinds.specs.Kinds.{as_key, IsAscii, IsRightFor, WindowInRows, key_of, kinds_in, threshold_of}
+use Rattle.latest.specs.WithTables.{InTables}
+use Rattle.kinds.specs.Kinds.{as_key, IsAscii, IsRightFor, key_of, kinds_in, threshold_of}
 
 address_ascii : (b : ℕ) → is_address_byte b ≡ true → b < 128
 address_ascii b h = grind (arith, nat_tests)
@@ -34,7 +36,7 @@ listed_all : {K : Type 0} (alike : K → K → Bool) (bracket : K → ℕ × ℕ
 listed_all alike bracket threshold P keys all =
     All-map (λ e. P e.key) (λ k. entry_of k (bracket k)) _ (All-filter (λ k. leb threshold (bracket k).1) P (firsts alike keys) (all_firsts alike P keys all))
 
-module _ (kinds : WindowInRows) (values : List AddressKey) (right : IsRightFor kinds values) where
+module _ (kinds : InTables AddressKey Figures) (values : List AddressKey) (right : IsRightFor kinds values) where
   pub kinds_ascii : (n : ℕ) → All (λ e. IsAscii e.key) (kinds_in n (window_of kinds.window.keeper kinds.rows))
   kinds_ascii n =
       let keys = window_of kinds.window.keeper kinds.rows in

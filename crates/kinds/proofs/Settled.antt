@@ -1,28 +1,24 @@
 -- A ring under a window of 63 refuses none of the calls that linewatch makes. Assumes nothing.
-use Rattle.std.proofs.Common.{◌≡◌, ℕ, ◌+◌, ◌-◌, ◌/◌, ◌%◌, ◌^◌, ◌<◌, ◌≤◌, Bool, not, leb, zero, suc, false, List, [], ◌∷◌, length, take, drop, filter, min, max, Ok, Result, sym, refl, ap, ◌∙◌, length-append, arith}
+use Rattle.std.proofs.Common.{◌≡◌, ℕ, ◌+◌, ◌-◌, ◌/◌, ◌%◌, ◌^◌, ◌<◌, ◌≤◌, Bool, not, leb, zero, suc, false, List, [], ◌∷◌, length, take, drop, filter, min, max, Ok, is_ok, true, Result, refl, ap, ◌∙◌, length-append, arith}
 use Rattle.std.specs.Prelude.{nat_lt}
 use Rattle.std.proofs.lemmas.Bool.{le-ltb}
 use Rattle.std.proofs.lemmas.Bool.Decides.{nat_tests}
 use Rattle.std.proofs.lemmas.List.{length-map, length-take}
 use Rattle.std.proofs.lemmas.List.Elements.{All-append, All-cons, All-nil}
 use Rattle.std.proofs.lemmas.List.Sums.{length-filter, count_by-le-length}
-use Rattle.tally.specs.declared.rows.Head.{Head}
 use Rattle.tally.specs.declared.rows.Row.{Row}
 use Rattle.keeper.specs.Figures.{Figures}
 use Rattle.keeper.specs.declared.refusal.Refusal.{Refusal}
 use Rattle.keeper.specs.Listing.{firsts, listed, entry_of}
-use Rattle.keeper.specs.Refusals.{unfit, list_answer}
-use Rattle.keeper.specs.Tables.{lengths, needed, short}
-use Rattle.ring.specs.Rings.{exactly, HoldsWindow, key_in, keys_from, need_of, window_of, listing_of}
+use Rattle.keeper.specs.Refusals.{unfit}
+use Rattle.ring.specs.Rings.{exactly, HoldsWindow, key_in, keys_from, window_of, listing_of}
 use Rattle.likeness.specs.Agree.{same_kind}
 use Rattle.likeness.specs.declared.address.AddressKey.{AddressKey}
-use Rattle.windows.specs.declared.refusal.Returned.{Returned}
-use Rattle.windows.specs.Fixed.{Fixed}
-use Rattle.windows.specs.Refusals.{slide_answer}
 use Rattle.watch.specs.Counters.{Takes}
-use Rattle.latest.specs.Latest.{Accepted, Rejected}
+use Rattle.latest.specs.WithTables.{InTables, list_answer, TakenIn}
+use Rattle.latest.proofs.InTables.{accepts}
 use Rattle.kinds.proofs.Addresses.{read_ascii}
-use Rattle.kinds.specs.Kinds.{IsAscii, IsRightFor, IsSet, WindowInRows, key_of, kinds_in, threshold_of, most_keys}
+use Rattle.kinds.specs.Kinds.{IsAscii, IsRightFor, IsSet, key_of, kinds_in, threshold_of, most_keys}
 use Rattle.watch.specs.Report.{most_lines}
 
 filter_fewer : {X : Type 0} (test : X → Bool) (xs : List X) → length (filter test xs) ≤ length xs
@@ -53,43 +49,31 @@ kinds_fewer n s rows =
 pub rounded_up : (n : ℕ) → max (n / 8 + min 1 (n % 8)) 1 ≡ threshold_of n
 rounded_up n = let up : n / 8 + min 1 (n % 8) ≡ (n + 7) / 8 = omega arith in ap (λ m. max m 1) up
 
-module _ (kinds : WindowInRows) (set : IsSet kinds) where
-  -- The table is long enough.
-  enough : short (needed (λ s. s) need_of kinds.window.keeper) (lengths kinds.rows []) ≡ false
-  enough = rw set.span (rw set.rows refl)
-
-  -- And 2^30 puts are more than a million, so no key is refused.
-  pub slides : kinds.window.keeper.puts < most_lines → slide_answer (needed (λ s. s) need_of kinds.window.keeper) (lengths kinds.rows []) kinds.window.keeper ≡ Ok tt
-  slides few = rw enough (grind (arith, nat_tests))
-
-  pub takes_none : (key : AddressKey) (after : WindowInRows) (back : Returned (Fixed Figures)) (rows' : List (Row AddressKey)) (heads' : List Head)
-      → Rejected {K = AddressKey} (λ s. s) HoldsWindow need_of kinds.window kinds.rows [] back rows' heads' → Takes key_of (λ k. k.window.keeper.puts) IsRightFor kinds key after
-  takes_none key after back rows' heads' rejected =
-      let never : kinds.window.keeper.puts < most_lines → ⊥ = λ few. let clash = sym (slides few) ∙ rejected.answer in cc in
-      record { counts = λ few. absurd (never few); holds_more = λ few text values read right. absurd (never few) }
-
-  pub takes_one : (key : AddressKey) (after : WindowInRows) (heads' : List Head)
-      → Accepted (λ s. s) HoldsWindow need_of kinds.window kinds.rows [] key after.window after.rows heads' → Takes key_of (λ k. k.window.keeper.puts) IsRightFor kinds key after
-  takes_one key after heads' accepted = record {
-    counts = λ few. ap (λ f. f.puts) accepted.tells;
-    holds_more = λ few text values read right.
-        let t = accepted.takes [] values right.holds in
-        record {
-          goal = accepted.goal ∙ right.goal;
-          holds = record { held = t.held; size = t.size; puts = t.puts };
+module _ (kinds : InTables AddressKey Figures) where
+  -- 2^30 keys are more than a million, so none is refused.
+  pub takes : (key : AddressKey) (r : Result (Unit {0}) Refusal) (after : InTables AddressKey Figures) → TakenIn (λ s. s) HoldsWindow kinds key r after
+      → Takes key_of (λ k. k.window.keeper.puts) IsRightFor kinds key after
+  takes key r after taken =
+      let accepted : kinds.window.keeper.puts < most_lines → is_ok r ≡ true = λ few. accepts kinds.window.keeper r taken.answer (omega (arith, few)) in
+      record {
+        counts = λ few. ap (λ f. f.puts) (taken.tells (accepted few));
+        holds_more = λ few text values read right. record {
+          goal = taken.goal ∙ right.goal;
+          holds = taken.takes (accepted few) [] values right.holds;
           ascii = All-append IsAscii values (key ∷ []) right.ascii (All-cons IsAscii key [] (read_ascii text key read) (All-nil IsAscii));
         };
-  }
+      }
 
-  -- The threshold is high enough.
-  fit : unfit kinds.window.keeper (threshold_of kinds.window.keeper.size) ≡ false
-  fit = rw set.accuracy (grind (arith, nat_tests))
+  module _ (set : IsSet kinds) where
+    -- The threshold is high enough.
+    fit : unfit kinds.window.keeper (threshold_of kinds.window.keeper.size) ≡ false
+    fit = rw set.accuracy (grind (arith, nat_tests))
 
-  -- A list is refused for nothing, if it has a place for each key.
-  pub lists : (r : Result ℕ Refusal) (threshold room : ℕ) → threshold ≡ threshold_of kinds.window.keeper.size → room ≡ most_keys
-      → r ≡ list_answer (needed (λ s. s) need_of kinds.window.keeper) (lengths kinds.rows []) kinds.window.keeper threshold room (length (listing_of (λ x y. same_kind x.bytes y.bytes) (window_of kinds.window.keeper kinds.rows) threshold))
-      → r ≡ Ok (length (kinds_in kinds.window.keeper.size (window_of kinds.window.keeper kinds.rows)))
-  lists r threshold room e whole answer =
-      let named = length (kinds_in kinds.window.keeper.size (window_of kinds.window.keeper kinds.rows)) in
-      let holds : nat_lt most_keys named ≡ false = le-ltb most_keys named (omega (arith, kinds_fewer kinds.window.keeper.size kinds.window.keeper kinds.rows, set.within)) in
-      answer ∙ rw e (rw whole (rw enough (rw fit (rw holds refl))))
+    -- A list is refused for nothing, if it has a place for each key.
+    pub lists : (r : Result ℕ Refusal) (threshold room : ℕ) → threshold ≡ threshold_of kinds.window.keeper.size → kinds.window.keeper.size ≤ kinds.window.goal → room ≡ most_keys
+        → r ≡ list_answer kinds.window.keeper threshold room (length (listing_of (λ x y. same_kind x.bytes y.bytes) (window_of kinds.window.keeper kinds.rows) threshold))
+        → r ≡ Ok (length (kinds_in kinds.window.keeper.size (window_of kinds.window.keeper kinds.rows)))
+    lists r threshold room e within whole answer =
+        let named = length (kinds_in kinds.window.keeper.size (window_of kinds.window.keeper kinds.rows)) in
+        let holds : nat_lt most_keys named ≡ false = le-ltb most_keys named (omega (arith, kinds_fewer kinds.window.keeper.size kinds.window.keeper kinds.rows, within, set.goal)) in
+        answer ∙ rw e (rw whole (rw fit (rw holds refl)))

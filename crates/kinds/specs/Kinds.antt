@@ -1,17 +1,16 @@
 -- What linewatch reads of a line, and what it keeps of that. Assumes nothing.
-use Rattle.std.specs.Prelude.{◌≡◌, ℕ, ◌+◌, ◌/◌, ◌<◌, ◌≤◌, List, [], length, max, Ok, Err, Result, All}
+use Rattle.std.specs.Prelude.{◌≡◌, ℕ, ◌+◌, ◌/◌, ◌<◌, List, [], length, max, Ok, Err, Result, All}
 use Rattle.std.specs.List.{AllByRecursion, flat_map}
 use Rattle.sentences.specs.declared.error.SentenceError.{SentenceError}
 use Rattle.sentences.specs.declared.reader.Address.{Address}
 use Rattle.sentences.specs.Reader.{address_of}
 use Rattle.likeness.specs.Agree.{same_kind}
 use Rattle.likeness.specs.declared.address.AddressKey.{AddressKey}
-use Rattle.tally.specs.declared.rows.Row.{Row}
 use Rattle.keeper.specs.declared.entry.Entry.{Entry}
 use Rattle.keeper.specs.Figures.{Figures}
 use Rattle.ring.specs.Rings.{HoldsWindow, listing_of}
-use Rattle.windows.specs.Fixed.{Fixed}
-use Rattle.latest.specs.Latest.{latest, HoldsLatest}
+use Rattle.latest.specs.Latest.{latest}
+use Rattle.latest.specs.WithTables.{HoldsLatestIn, InTables}
 use Rattle.kinds.specs.Printed.{kind_text}
 
 -- The address of a sentence as it is counted.
@@ -38,25 +37,18 @@ kinds_in n window = listing_of (λ x y. same_kind x.bytes y.bytes) window (thres
 abbrev pub kinds_text : List AddressKey → List ℕ
 kinds_text keys = let window = latest most_keys keys in flat_map kind_text (kinds_in (length window) window)
 
--- A counter of kinds: its window, and the rows in which that lies.
-pub record WindowInRows : Type 0 where
-  pub window : Fixed Figures
-  pub rows : List (Row AddressKey)
-
--- The window is of accuracy 3 and span 6, and of the right size, and so are the rows.
-pub record IsSet (kinds : WindowInRows) : Type 0 where
+-- A counter of kinds is its window: of accuracy 3 and span 6, and of the right size.
+pub record IsSet (kinds : InTables AddressKey Figures) : Type 0 where
   pub accuracy : kinds.window.keeper.accuracy ≡ 3
   pub span : kinds.window.keeper.span ≡ 6
   pub goal : kinds.window.goal ≡ most_keys
-  pub within : kinds.window.keeper.size ≤ most_keys
-  pub rows : length kinds.rows ≡ 64
 
 -- A key of ASCII bytes.
 abbrev pub IsAscii : AddressKey → Type 0
 IsAscii key = AllByRecursion (λ b. b < 128) key.bytes
 
 -- A counter is right for keys if its window holds the latest of them, and all can be printed.
-pub record IsRightFor (kinds : WindowInRows) (keys : List AddressKey) : Type 0 where
+pub record IsRightFor (kinds : InTables AddressKey Figures) (keys : List AddressKey) : Type 0 where
   pub goal : kinds.window.goal ≡ most_keys
-  pub holds : HoldsLatest (λ s. s) HoldsWindow kinds.window kinds.rows [] [] keys
+  pub holds : HoldsLatestIn (λ s. s) HoldsWindow kinds [] keys
   pub ascii : All IsAscii keys

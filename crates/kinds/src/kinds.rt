@@ -10,15 +10,13 @@ ghost use Rattle.kinds.specs.Kinds.{as_key, IsAscii, IsRightFor, key_of, kinds_i
 ghost use Rattle.kinds.specs.Printed.{kind_text};
 
 use keeper::{Entry, Keeper};
-use latest::Latest;
+use latest::{Latest, WithTables};
 use likeness::AddressKey;
 use ring::Ring;
 use sentences::{Address, SentenceError, read_address};
 use settings::Setting;
 use std::alloc::{AllocError, Global};
 use std::marker::Model;
-use std::mem;
-use tally::Row;
 use watch::Counter;
 
 const ACCURACY: u32 = 3;
@@ -28,26 +26,25 @@ const SPAN: u32 = 6;
 // How many addresses the window has, once so many have come.
 const MOST_KEYS: usize = 63;
 
-// As many rows as a ring of this span uses.
-const ROWS: usize = 64;
-
 const NO_KEY: AddressKey = AddressKey { bytes: [0; 5] };
 
 /// Which kinds of sentence are many among the latest 63 addresses.
 #[derive(Drop)]
 pub struct Kinds {
-    rows: [Row<AddressKey>; ROWS],
-    window: Latest<Ring>,
+    window: WithTables<AddressKey, Ring>,
 }
 
 impl Model for Kinds {
-    ghost use Rattle.kinds.specs.Kinds.{IsSet, WindowInRows};
+    ghost use Rattle.likeness.specs.declared.address.AddressKey.{AddressKey};
+    ghost use Rattle.keeper.specs.Figures.{Figures};
+    ghost use Rattle.latest.specs.WithTables.{InTables};
+    ghost use Rattle.kinds.specs.Kinds.{IsSet};
 
-    ghost Value = { WindowInRows };
+    ghost Value = { InTables AddressKey Figures };
 
-    ghost view = { λ kinds. record { window = kinds.window; rows = kinds.rows } };
+    ghost view = { λ kinds. kinds.window };
 
-    ghost invariant = { λ kinds. IsSet (record { window = kinds.window; rows = kinds.rows }) };
+    ghost invariant = { λ kinds. IsSet kinds.window };
 }
 
 // An eighth of so many keys, rounded up, but at least 1.
@@ -74,7 +71,7 @@ impl Kinds {
         ensures fits { result ≤ most_keys }
     {
         let threshold = eighth(self.window.size());
-        self.window.list(&self.rows, &[], threshold, list).unwrap()
+        self.window.list(threshold, list).unwrap()
     }
 }
 
@@ -104,15 +101,9 @@ impl Counter for Kinds {
 
     ghost decided = { λ text. ap as_key (address_decided text) };
 
-    // The rows are an array, so it takes no memory.
-    fn new(_heap: Global) -> Result<Kinds, AllocError> {
-        let row = Row {
-            key: NO_KEY,
-            count: 0,
-        };
+    fn new(heap: Global) -> Result<Kinds, AllocError> {
         Ok(Kinds {
-            rows: [row; ROWS],
-            window: empty_window(),
+            window: WithTables::new(empty_window(), NO_KEY, heap)?,
         })
     }
 
@@ -121,14 +112,9 @@ impl Counter for Kinds {
         Ok(AddressKey { bytes })
     }
 
-    // The table is long enough, and 2^30 are more than can come, so no key is refused.
+    // 2^30 are more than can come, so no key is refused.
     fn take(&mut self, key: AddressKey) {
-        // A window is moved to take a key. Meanwhile an empty one stands in its place.
-        let window = mem::replace(&mut self.window, empty_window());
-        self.window = match window.take(&mut self.rows, &mut [], key) {
-            Ok(window) => window,
-            Err(back) => back.value,
-        };
+        let _ = self.window.take(key);
     }
 
     fn print_end(&self, out: &mut String) -> Result<(), AllocError> {

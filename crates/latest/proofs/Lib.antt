@@ -1,1 +1,2 @@
+pub mod InTables
 mod Moves

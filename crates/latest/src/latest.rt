@@ -1,14 +1,17 @@
 //! A window of the latest keys, which fills and then slides by itself.
 
-ghost use Rattle.std.specs.Prelude.{◌≡◌};
+ghost use Rattle.std.specs.Prelude.{◌≡◌, ◌^◌, ◌<◌, ◌≤◌};
 ghost use Rattle.keeper.specs.Rules.{Listed};
+ghost use Rattle.verdicts.specs.Rules.{Judged};
 ghost use Rattle.windows.specs.Windows.{Made};
 ghost use Rattle.latest.specs.Latest.{Taken};
 
-use keeper::{Entry, Keeper, Record, Refusal};
-use likeness::Likeness;
+use keeper::{Entry, Keeper, Lengths, Record, Refusal};
+use likeness::{Likeness, SoundingKey};
+use settings::Setting;
 use std::marker::Model;
 use tally::{Head, Row};
+use verdicts::{Judgement, VerdictRefusal};
 use windows::{Filling, Returned, Sliding, WindowRefusal};
 
 /// A fixed window that turns as soon as it has its size: it holds the latest keys of all that came.
@@ -75,6 +78,44 @@ impl<P: Record> State<P> {
     }
 }
 
+/// It tells what its keeper tells.
+impl<P: Record> Record for Latest<P> {
+    ghost figures = { λ w. P.Record.figures w.keeper };
+
+    ghost need = { P.Record.need };
+
+    fn setting(&self) -> Setting {
+        match &self.state {
+            State::Filling(window) => window.setting(),
+            State::Sliding(window) => window.setting(),
+        }
+    }
+
+    fn puts(&self) -> u32 {
+        match &self.state {
+            State::Filling(window) => window.puts(),
+            State::Sliding(window) => window.puts(),
+        }
+    }
+
+    fn size(&self) -> u32
+        ensures value { result ≡ (P.Record.figures self.now.keeper).size }
+        ensures within { result ≤ self.now.goal }
+    {
+        match &self.state {
+            State::Filling(window) => window.size(),
+            State::Sliding(window) => window.size(),
+        }
+    }
+
+    fn needs(&self) -> Lengths {
+        match &self.state {
+            State::Filling(window) => window.needs(),
+            State::Sliding(window) => window.needs(),
+        }
+    }
+}
+
 impl<P: Record> Latest<P> {
     /// An empty window on a keeper, which is to hold the latest `goal` keys. As for `Filling`, the size is from 1 to 2^span − 1,
     /// and the keeper's window is empty. Otherwise the keeper is handed back.
@@ -87,12 +128,14 @@ impl<P: Record> Latest<P> {
         })
     }
 
-    /// How many keys the window holds.
-    pub fn size(&self) -> u32
-        ensures { result ≡ (P.Record.figures self.now.keeper).size }
+    /// How many keys the window is to hold.
+    pub fn goal(&self) -> u32
+        ensures value { result ≡ self.now.goal }
+        ensures some { 1 ≤ result }
+        ensures fits { result < 2 ^ (P.Record.figures self.now.keeper).span }
     {
         match &self.state {
-            State::Filling(window) => window.size(),
+            State::Filling(window) => window.goal(),
             State::Sliding(window) => window.size(),
         }
     }
@@ -137,6 +180,25 @@ impl<P: Record> Latest<P> {
         match &self.state {
             State::Filling(window) => window.list(rows, heads, threshold, list),
             State::Sliding(window) => window.list(rows, heads, threshold, list),
+        }
+    }
+
+    /// Whether a ferry of this class can come in, from the keeper's counts of the sounder's keys.
+    pub fn verdict(
+        &self,
+        rows: &[Row<SoundingKey>],
+        heads: &[Head],
+        sounder: [u8; 2],
+        class: u8,
+    ) -> Result<Judgement, VerdictRefusal>
+    where
+        P: Keeper<SoundingKey>,
+        ensures { Judged P.Record.figures P.Keeper.holds P.Record.need P.Keeper.bracket
+            self.now.keeper rows.now heads.now sounder class result }
+    {
+        match &self.state {
+            State::Filling(window) => window.verdict(rows, heads, sounder, class),
+            State::Sliding(window) => window.verdict(rows, heads, sounder, class),
         }
     }
 }

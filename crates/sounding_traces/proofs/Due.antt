@@ -16,7 +16,6 @@ use Rattle.verdicts.specs.Refusals.{is_class, verdict_answer}
 use Rattle.verdicts.specs.Rules.{IsRight}
 use Rattle.verdicts.specs.Rules as verdicts
 use Rattle.verdicts.specs.Verdicts.{judged, sums_below}
-use Rattle.verdicts.proofs.Adding.{sums_same}
 use Rattle.traces.specs.declared.stage.Stage.{Stage}
 use Rattle.traces.specs.Account.{Account, Terms}
 use Rattle.traces.specs.Determined.{Determined}
@@ -67,5 +66,5 @@ module _ {P : Type 0} (figures : P → Figures) (holds : P → List (Row Soundin
     counted key = determined.counted (keeper_of s) rows heads a.past a.window st.true_to key ∙ ap (λ terms. counts terms.accuracy terms.span a.past a.window key) st.terms
 
     pub verdict_exact : (r : Result Judgement VerdictRefusal) → Own r → Gives (counts t.accuracy t.span a.past a.window) (lists t.accuracy t.span a.past a.window) (length a.window) (Ask sounder class) (Judged r)
-    verdict_exact (Ok j) own = own j refl ∙ ap (judged (length a.window)) (sums_same (bracket (keeper_of s) rows heads) (counts t.accuracy t.span a.past a.window) counted sounder class)
+    verdict_exact (Ok j) own = own j refl ∙ (λ i. judged (length a.window) (sums_below (λ key. counted key i) sounder class))
     verdict_exact (Err e) own = tt

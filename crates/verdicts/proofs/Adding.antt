@@ -1,5 +1,5 @@
 -- Brackets of unlike keys are added pairwise, and stay close for what the keys count together. Assumes nothing.
-use Rattle.std.proofs.Common.{◌≡◌, ℕ, zero, suc, ◌+◌, ◌-◌, ◌*◌, ◌^◌, List, refl, ap, add-mul, mul-add, arith}
+use Rattle.std.proofs.Common.{◌≡◌, ℕ, ◌+◌, ◌-◌, ◌*◌, ◌^◌, List, refl, ap, add-mul, mul-add, arith}
 use Rattle.keeper.specs.Rules.{Bracket}
 use Rattle.verdicts.specs.Rules.{Sums}
 use Rattle.likeness.specs.Agree.{same_sounding}
@@ -37,8 +37,3 @@ module _ (a n : ℕ) (window : List SoundingKey) (sounder : List ℕ) where
       → Bracket a n (true_count same_sounding window (record { sounder = sounder; band = band })) bracket
       → Sums a n (truly_short window sounder (band + 1)) (band + 1) (added sums bracket)
   short_sums_more band sums bracket s b = rw (short_more window sounder band) (sums_more a n (truly_short window sounder band) band _ sums bracket s b)
-
--- equal brackets have equal sums
-pub sums_same : (bracket other : SoundingKey → ℕ × ℕ) → ((key : SoundingKey) → bracket key ≡ other key) → (sounder : List ℕ) (class : ℕ) → sums_below bracket sounder class ≡ sums_below other sounder class
-sums_same bracket other same sounder zero = refl
-sums_same bracket other same sounder (suc band) = rw (sums_same bracket other same sounder band) (rw (same (record { sounder = sounder; band = band })) refl)

@@ -8,18 +8,18 @@ use Rattle.kinds.proofs.kinds.Kinds.list.Goals as goal
 
 pub unwrap-requires : goal.unwrap-requires
 unwrap-requires c =
-    let threshold = c.eighth-threshold.ensures ∙ ap threshold_of c.size.ensures in
-    rw (lists (record { window = c.self.inside.window; rows = c.self.inside.rows }) c.self.invariant c.list.result c.eighth-threshold.result (length c.args.list.now) threshold c.told-list c.list.ensures.answer) refl
+    let threshold = c.eighth-threshold.ensures ∙ ap threshold_of c.size.ensures.value in
+    rw (lists c.self.inside.window c.self.invariant c.list.result c.eighth-threshold.result (length c.args.list.now) threshold (rw c.size.ensures.value at c.size.ensures.within) c.told-list c.list.ensures.answer) refl
 
 pub returns-clause-written : goal.returns-clause-written
 returns-clause-written c =
-    let threshold = c.eighth-threshold.ensures ∙ ap threshold_of c.size.ensures in
+    let threshold = c.eighth-threshold.ensures ∙ ap threshold_of c.size.ensures.value in
     subst (λ k. c.list.new.list ≡ over (kinds_in k.window.keeper.size (window_of k.window.keeper k.rows)) c.args.list.now) c.self.view_is
-    (subst (λ t. c.list.new.list ≡ over (listing_of (λ x y. same_kind x.bytes y.bytes) (window_of c.self.inside.window.keeper c.self.inside.rows) t) c.args.list.now) threshold
-    (c.list.ensures.written (ap is_ok c.unwrap.ensures)))
+    (subst (λ t. c.list.new.list ≡ over (listing_of (λ x y. same_kind x.bytes y.bytes) (window_of c.self.inside.window.window.keeper c.self.inside.window.rows) t) c.args.list.now) threshold
+    (c.list.ensures.listed.written (ap is_ok c.unwrap.ensures)))
 
 pub returns-clause-named : goal.returns-clause-named
 returns-clause-named c =
-    let threshold = c.eighth-threshold.ensures ∙ ap threshold_of c.size.ensures in
-    let named = lists (record { window = c.self.inside.window; rows = c.self.inside.rows }) c.self.invariant c.list.result c.eighth-threshold.result (length c.args.list.now) threshold c.told-list c.list.ensures.answer in
+    let threshold = c.eighth-threshold.ensures ∙ ap threshold_of c.size.ensures.value in
+    let named = lists c.self.inside.window c.self.invariant c.list.result c.eighth-threshold.result (length c.args.list.now) threshold (rw c.size.ensures.value at c.size.ensures.within) c.told-list c.list.ensures.answer in
     subst (λ k. c.unwrap.result ≡ length (kinds_in k.window.keeper.size (window_of k.window.keeper k.rows))) c.self.view_is (cc (named, c.unwrap.ensures))
