@@ -1,5 +1,5 @@
 -- What bedwatch reads of a line, and what it says of all that it read. Assumes nothing.
-use Rattle.std.specs.Prelude.{◌≡◌, ℕ, Bool, List, [], ◌∷◌, ◌++◌, length, Ok, Err, Result, codes}
+use Rattle.std.specs.Prelude.{◌≡◌, ℕ, List, [], ◌∷◌, ◌++◌, length, Ok, Err, Result, codes}
 use Rattle.std.specs.List.{flat_map}
 use Rattle.sentences.specs.declared.error.SentenceError.{SentenceError}
 use Rattle.sentences.specs.declared.reader.Reading.{Reading}
