@@ -1,18 +1,16 @@
 -- A keeper's verdict, as a call of a trace. Assumes nothing.
-use Rattle.std.proofs.Common.{◌≡◌, ℕ, Bool, true, false, if◌then◌else◌, List, length, Ok, Err, Result, refl, sym, ap, ◌∙◌, subst}
+use Rattle.std.proofs.Common.{◌≡◌, ℕ, Bool, true, false, List, length, Ok, Err, Result, refl, sym, ap, ◌∙◌, subst}
 use Rattle.likeness.specs.Counts.{truly_short}
 use Rattle.likeness.specs.declared.sounding.SoundingKey.{SoundingKey}
 use Rattle.tally.specs.declared.rows.Head.{Head}
 use Rattle.tally.specs.declared.rows.Row.{Row}
 use Rattle.keeper.specs.declared.entry.Entry.{Entry}
 use Rattle.keeper.specs.declared.lengths.Lengths.{Lengths}
-use Rattle.keeper.specs.declared.refusal.Refusal.TheVariants.{ShortTable}
 use Rattle.keeper.specs.Figures.{Figures}
 use Rattle.keeper.specs.Tables.{short}
 use Rattle.verdicts.specs.declared.judgement.Judgement.{Judgement}
 use Rattle.verdicts.specs.declared.refusal.VerdictRefusal.{VerdictRefusal}
-use Rattle.verdicts.specs.declared.refusal.VerdictRefusal.TheVariants.{Class, Keeper}
-use Rattle.verdicts.specs.Refusals.{is_class, verdict_answer}
+use Rattle.verdicts.specs.Refusals.{answer_by, is_class, verdict_answer}
 use Rattle.verdicts.specs.Rules.{IsRight}
 use Rattle.verdicts.specs.Rules as verdicts
 use Rattle.verdicts.specs.Verdicts.{judged, sums_below}
@@ -23,10 +21,6 @@ use Rattle.traces.specs.Stages.{Follows, keeper_of}
 use Rattle.sounding_traces.specs.declared.calls.SoundingAnswer.TheVariants.{Judged}
 use Rattle.sounding_traces.specs.declared.calls.SoundingCall.TheVariants.{Ask}
 use Rattle.sounding_traces.specs.Model.{Gives, VerdictRight, admitted}
-
--- an answer by whether a table is too short and whether there is the class
-abbrev answered : {X : Type 0} → Bool → Bool → X → Result X VerdictRefusal
-answered short there value = if short then Err (Keeper ShortTable) else if there then Ok value else Err Class
 
 module _ {P : Type 0} (figures : P → Figures) (holds : P → List (Row SoundingKey) → List Head → List SoundingKey → List SoundingKey → Type 0) (need : ℕ → ℕ → Lengths)
     (bracket : P → List (Row SoundingKey) → List Head → SoundingKey → ℕ × ℕ) (listing : P → List (Row SoundingKey) → List Head → ℕ → List (Entry SoundingKey))
@@ -43,7 +37,7 @@ module _ {P : Type 0} (figures : P → Figures) (holds : P → List (Row Soundin
   Own r = (j : Judgement) → r ≡ Ok j → j ≡ own (length a.window)
 
   -- refused for the tables, refused for the class, or given
-  by_cases : (short there : Bool) (r : Result Judgement VerdictRefusal) → answered short there tt ≡ admitted t class → r ≡ answered short there (own (length a.window))
+  by_cases : (short there : Bool) (r : Result Judgement VerdictRefusal) → answer_by short there tt ≡ admitted t class → r ≡ answer_by short there (own (length a.window))
       → ((j : Judgement) → r ≡ Ok j → Right t.accuracy j) → VerdictRight t a sounder class r × Own r
   by_cases true there r admits e right = rw e (sym admits, λ j given. cc)
   by_cases false true r admits e right = rw e ((sym admits, refl, right (own (length a.window)) e), λ j given. cc)

@@ -25,7 +25,7 @@ use sentences::{Reading, SentenceError, read_depth};
 use settings::Setting;
 use std::alloc::{AllocError, Global};
 use std::marker::Model;
-use verdicts::Judgement;
+use verdicts::{FIRST_CLASS, Judgement, LAST_CLASS};
 use watch::Counter;
 
 const ACCURACY: u32 = 1;
@@ -37,10 +37,6 @@ const MOST_SOUNDINGS: u32 = 256;
 
 // The sounder at the berth.
 const BERTH: [u8; 2] = *b"SD";
-
-const FIRST_CLASS: u8 = 1;
-
-const LAST_CLASS: u8 = 6;
 
 /// The latest 256 soundings, and for which classes of ferry the berth has water by these.
 #[derive(Drop)]

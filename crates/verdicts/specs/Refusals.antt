@@ -20,9 +20,13 @@ refusal_text refusal = codes "refused " ++ decimal (number_of refusal)
 abbrev pub is_class : ℕ → Bool
 is_class class = nat_le 1 class && nat_le class 6
 
--- what is answered about a class, by what is needed of the tables and what is lent; `value` is the answer where nothing is refused
-abbrev pub verdict_answer : {X : Type 0} → Lengths → Lengths → ℕ → X → Result X VerdictRefusal
-verdict_answer need lent class value =
-    if short need lent then Err (Keeper ShortTable)
-    else if is_class class then Ok value
+-- what is answered, by whether a table is too short and whether there is the class; `value` is the answer where nothing is refused
+abbrev pub answer_by : {X : Type 0} → Bool → Bool → X → Result X VerdictRefusal
+answer_by short there value =
+    if short then Err (Keeper ShortTable)
+    else if there then Ok value
     else Err Class
+
+-- what is answered about a class, by what is needed of the tables and what is lent
+abbrev pub verdict_answer : {X : Type 0} → Lengths → Lengths → ℕ → X → Result X VerdictRefusal
+verdict_answer need lent class value = answer_by (short need lent) (is_class class) value

@@ -14,7 +14,8 @@ use Rattle.verdicts.specs.declared.refusal.VerdictRefusal.{VerdictRefusal}
 use Rattle.verdicts.specs.Refusals.{verdict_answer}
 use Rattle.verdicts.specs.Verdicts.{judged, sums_below}
 
--- the sums of the brackets of so many unlike keys, which count `count` together, at accuracy a and in a window of n keys: each bracket is at least one short of n
+-- the sums of the brackets of so many unlike keys, which count `count` together, at accuracy a and in a window of n keys; 2^a times
+-- each bracket's width is at least one short of n
 pub record Sums (a n count keys : ℕ) (sums : ℕ × ℕ) : Type 0 where
   pub floor : sums.0 ≤ count
   pub ceiling : count ≤ sums.1

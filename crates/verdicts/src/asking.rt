@@ -16,9 +16,11 @@ use keeper::{Keeper, Lengths, Refusal, admit_tables};
 use likeness::SoundingKey;
 use tally::{Head, Row};
 
-const FIRST_CLASS: u8 = 1;
+/// Classes of ferry are numbered from 1 to 6.
+pub const FIRST_CLASS: u8 = 1;
 
-const LAST_CLASS: u8 = 6;
+/// The last class.
+pub const LAST_CLASS: u8 = 6;
 
 // The keeper's brackets of the sounder's keys in the bands below a class, added pairwise.
 fn sum_below<P: Keeper<SoundingKey>>(

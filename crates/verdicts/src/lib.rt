@@ -5,7 +5,7 @@ mod asking;
 mod judgement;
 mod refusal;
 
-pub use asking::verdict;
+pub use asking::{FIRST_CLASS, LAST_CLASS, verdict};
 pub use judgement::{Judgement, Verdict};
 pub use refusal::VerdictRefusal;
 
