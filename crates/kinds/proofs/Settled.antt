@@ -15,7 +15,7 @@ use Rattle.ring.specs.Rings.{exactly, HoldsWindow, key_in, keys_from, window_of,
 use Rattle.likeness.specs.Agree.{same_kind}
 use Rattle.likeness.specs.declared.address.AddressKey.{AddressKey}
 use Rattle.watch.specs.Counters.{Takes}
-use Rattle.latest.specs.WithTables.{InTables, list_answer, TakenIn}
+use Rattle.latest.specs.WithTables.{InTables, list_answer_in, TakenIn}
 use Rattle.latest.proofs.InTables.{accepts}
 use Rattle.kinds.proofs.Addresses.{read_ascii}
 use Rattle.kinds.specs.Kinds.{IsAscii, IsRightFor, IsSet, key_of, kinds_in, threshold_of, most_keys}
@@ -71,7 +71,7 @@ module _ (kinds : InTables AddressKey Figures) where
 
     -- A list is refused for nothing, if it has a place for each key.
     pub lists : (r : Result ℕ Refusal) (threshold room : ℕ) → threshold ≡ threshold_of kinds.window.keeper.size → kinds.window.keeper.size ≤ kinds.window.goal → room ≡ most_keys
-        → r ≡ list_answer kinds.window.keeper threshold room (length (listing_of (λ x y. same_kind x.bytes y.bytes) (window_of kinds.window.keeper kinds.rows) threshold))
+        → r ≡ list_answer_in kinds.window.keeper threshold room (length (listing_of (λ x y. same_kind x.bytes y.bytes) (window_of kinds.window.keeper kinds.rows) threshold))
         → r ≡ Ok (length (kinds_in kinds.window.keeper.size (window_of kinds.window.keeper kinds.rows)))
     lists r threshold room e within whole answer =
         let named = length (kinds_in kinds.window.keeper.size (window_of kinds.window.keeper kinds.rows)) in

@@ -7,10 +7,10 @@ use Rattle.keeper.specs.declared.lengths.Lengths.{Lengths}
 use Rattle.keeper.specs.declared.refusal.Refusal.{Refusal}
 use Rattle.keeper.specs.Figures.{Figures, most_puts}
 use Rattle.latest.specs.Latest.{Accepted}
-use Rattle.latest.specs.WithTables.{InTables, IsLongEnough, take_answer, TakenIn}
+use Rattle.latest.specs.WithTables.{InTables, IsLongEnough, take_answer_in, TakenIn}
 
 -- Fewer keys than 2^30 are all accepted.
-pub accepts : (f : Figures) (r : Result (Unit {0}) Refusal) → r ≡ take_answer f → f.puts < most_puts → is_ok r ≡ true
+pub accepts : (f : Figures) (r : Result (Unit {0}) Refusal) → r ≡ take_answer_in f → f.puts < most_puts → is_ok r ≡ true
 accepts f r answer few = grind (arith, nat_tests)
 
 module _ {K P : Type 0} (figures : P → Figures) (holds : P → List (Row K) → List Head → List K → List K → Type 0) (need : ℕ → ℕ → Lengths) where

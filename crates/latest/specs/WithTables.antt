@@ -20,18 +20,19 @@ pub record InTables (K P : Type 0) : Type 0 where
   pub rows : List (Row K)
   pub heads : List Head
 
--- What a key, a list and a verdict are answered by tables that are long enough; `value` is the answer where nothing is refused.
-abbrev pub take_answer : Figures → Result (Unit {0}) Refusal
-take_answer f = if nat_le most_puts f.puts then Err Spent else Ok tt
+-- What a key, a list and a verdict are answered beside tables that are long enough.
+abbrev pub take_answer_in : Figures → Result (Unit {0}) Refusal
+take_answer_in f = if nat_le most_puts f.puts then Err Spent else Ok tt
 
-abbrev pub list_answer : Figures → ℕ → ℕ → ℕ → Result ℕ Refusal
-list_answer f threshold room named = if unfit f threshold then Err Threshold else room_answer room named
+abbrev pub list_answer_in : Figures → ℕ → ℕ → ℕ → Result ℕ Refusal
+list_answer_in f threshold room named = if unfit f threshold then Err Threshold else room_answer room named
 
-abbrev pub verdict_answer : {X : Type 0} → ℕ → X → Result X VerdictRefusal
-verdict_answer class value = if is_class class then Ok value else Err Class
+-- `value` is the answer where nothing is refused.
+abbrev pub verdict_answer_in : {X : Type 0} → ℕ → X → Result X VerdictRefusal
+verdict_answer_in class value = if is_class class then Ok value else Err Class
 
 module _ {K P : Type 0} (figures : P → Figures) where
-  -- The tables are as long as the keeper needs.
+  -- The tables are long enough for the keeper.
   abbrev pub IsLongEnough : (ℕ → ℕ → Lengths) → InTables K P → Type 0
   IsLongEnough need w = short (needed figures need w.window.keeper) (lengths w.rows w.heads) ≡ false
 
@@ -42,7 +43,7 @@ module _ {K P : Type 0} (figures : P → Figures) where
 
     -- One key more.
     pub record TakenIn (w : InTables K P) (key : K) (r : Result (Unit {0}) Refusal) (w' : InTables K P) : Type 0 where
-      pub answer : r ≡ take_answer (figures w.window.keeper)
+      pub answer : r ≡ take_answer_in (figures w.window.keeper)
       pub goal : w'.window.goal ≡ w.window.goal
       pub tells : is_ok r ≡ true → figures w'.window.keeper ≡ moved_on w.window.goal (figures w.window.keeper)
       pub takes : is_ok r ≡ true → (before keys : List K) → HoldsLatestIn w before keys → HoldsLatestIn w' before (keys ++ key ∷ [])

@@ -4,7 +4,7 @@ ghost use Rattle.std.specs.Prelude.{◌≡◌, ◌≤◌, IfOk, length};
 ghost use Rattle.keeper.specs.Rules.{Listed};
 ghost use Rattle.keeper.specs.Tables.{lengths, needed};
 ghost use Rattle.verdicts.specs.Rules.{Judged, said};
-ghost use Rattle.latest.specs.WithTables.{list_answer, TakenIn, verdict_answer};
+ghost use Rattle.latest.specs.WithTables.{list_answer_in, TakenIn, verdict_answer_in};
 
 use crate::latest::Latest;
 use keeper::{Entry, Keeper, Lengths, Record, Refusal};
@@ -15,7 +15,7 @@ use std::mem;
 use tally::{EMPTY, Head, Row};
 use verdicts::{Judgement, VerdictRefusal};
 
-/// A window of the latest keys and the tables in which they lie, as long as its keeper needs them. So no call is refused for its tables.
+/// A window of the latest keys and the tables that its keeper works on, which are long enough. So no call is refused for its tables.
 #[derive(Drop)]
 pub struct WithTables<K, P: Record> {
     window: Latest<P>,
@@ -88,7 +88,7 @@ impl<K: Likeness, P: Keeper<K> + Drop> WithTables<K, P> {
     pub fn list(&self, threshold: u32, list: &mut [Entry<K>]) -> Result<usize, Refusal>
         ensures listed { Listed P.Record.figures P.Keeper.holds P.Record.need K.Likeness.alike P.Keeper.bracket P.Keeper.listing
             self.now.window.keeper self.now.rows self.now.heads threshold list.old result list.new }
-        ensures answer { result ≡ list_answer (P.Record.figures self.now.window.keeper) threshold (length list.old)
+        ensures answer { result ≡ list_answer_in (P.Record.figures self.now.window.keeper) threshold (length list.old)
             (length (P.Keeper.listing self.now.window.keeper self.now.rows self.now.heads threshold)) }
     {
         self.window.list(&self.rows, &self.heads, threshold, list)
@@ -100,7 +100,7 @@ impl<P: Keeper<SoundingKey> + Drop> WithTables<SoundingKey, P> {
     pub fn verdict(&self, sounder: [u8; 2], class: u8) -> Result<Judgement, VerdictRefusal>
         ensures judged { Judged P.Record.figures P.Keeper.holds P.Record.need P.Keeper.bracket
             self.now.window.keeper self.now.rows self.now.heads sounder class result }
-        ensures answer { result ≡ verdict_answer class (said P.Record.figures P.Keeper.holds P.Record.need P.Keeper.bracket
+        ensures answer { result ≡ verdict_answer_in class (said P.Record.figures P.Keeper.holds P.Record.need P.Keeper.bracket
             self.now.window.keeper self.now.rows self.now.heads sounder class) }
     {
         self.window.verdict(&self.rows, &self.heads, sounder, class)

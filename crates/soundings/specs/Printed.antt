@@ -3,9 +3,9 @@ use Rattle.std.specs.Prelude.{ℕ, List, [], ◌∷◌, ◌++◌, codes, decimal
 use Rattle.verdicts.specs.declared.judgement.Judgement.{Judgement}
 use Rattle.verdicts.specs.Verdicts.{judgement_text}
 
--- `readings {readings}`
+-- `readings {size}`: how many soundings the window holds
 abbrev pub readings_text : ℕ → List ℕ
-readings_text readings = codes "readings " ++ (decimal readings ++ (10 ∷ []))
+readings_text size = codes "readings " ++ (decimal size ++ (10 ∷ []))
 
 -- `class {class} {verdict} {floor} {ceiling}`
 abbrev pub class_text : ℕ → Judgement → List ℕ

@@ -4,17 +4,15 @@ ghost use Rattle.std.specs.Prelude.{◌≡◌, List, [], ◌++◌, length, OnOk,
 ghost use Rattle.std.proofs.Common.{ap};
 ghost use Rattle.sentences.proofs.Decided.{reading_decided};
 ghost use Rattle.likeness.specs.Agree.{same_sounding};
-ghost use Rattle.likeness.specs.Counts.{truly_short};
 ghost use Rattle.likeness.specs.declared.sounding.SoundingKey.{SoundingKey};
 ghost use Rattle.tally.specs.declared.rows.Head.{Head};
 ghost use Rattle.tally.specs.declared.rows.Row.{Row};
 ghost use Rattle.keeper.specs.Figures.{newly};
 ghost use Rattle.ladder.specs.Truth.{HoldsWindow};
 ghost use Rattle.verdicts.specs.Refusals.{is_class};
-ghost use Rattle.verdicts.specs.Rules.{IsRight};
 ghost use Rattle.latest.specs.Latest.{HoldsLatest, latest};
-ghost use Rattle.soundings.specs.Printed.{class_text};
-ghost use Rattle.soundings.specs.Soundings.{as_key, berth, IsRightFor, judgement_on, key_from, key_of, most_soundings, soundings_text};
+ghost use Rattle.soundings.specs.Printed.{class_text, readings_text};
+ghost use Rattle.soundings.specs.Soundings.{as_key, classes_text, IsRightFor, JudgesRight, judgement_on, key_from, key_of, most_soundings, soundings_text};
 
 use bands::band_of;
 use keeper::Keeper;
@@ -36,7 +34,7 @@ const SPAN: u32 = 9;
 const MOST_SOUNDINGS: u32 = 256;
 
 // The sounder at the berth.
-const BERTH: [u8; 2] = *b"SD";
+const BERTH_SOUNDER: [u8; 2] = *b"SD";
 
 /// The latest 256 soundings, and for which classes of ferry the berth has water by these.
 #[derive(Drop)]
@@ -78,23 +76,30 @@ fn empty_window() -> Latest<Ladder>
 }
 
 impl Soundings {
-    // How many soundings the window holds.
-    #[tactic(auto, using(crate::proofs::Judging::size_is))]
-    fn size(&self) -> u32
-        ensures { (soundings : List SoundingKey) → IsRightFor self.now soundings → result ≡ length (latest most_soundings soundings) }
-    {
-        self.window.size()
-    }
-
     // What the window says of a class.
     fn judgement(&self, class: u8) -> Judgement
         requires there { is_class class ≡ true }
-        ensures value { (soundings : List SoundingKey) → IsRightFor self.now soundings → result ≡ judgement_on soundings class }
-        ensures right { (soundings : List SoundingKey) → IsRightFor self.now soundings
-            → IsRight 1 (length (latest most_soundings soundings)) (truly_short (latest most_soundings soundings) berth class) class result }
+        ensures { (soundings : List SoundingKey) → IsRightFor self.now soundings → result ≡ judgement_on soundings class }
     {
-        self.window.verdict(BERTH, class).unwrap()
+        self.window.verdict(BERTH_SOUNDER, class).unwrap()
     }
+
+    // Appends what is printed of all classes.
+    fn print_classes(&self, out: &mut String) -> Result<(), AllocError>
+        ensures { (soundings : List SoundingKey) → IsRightFor self.now soundings → OnOk result (string_bytes out.new ≡ string_bytes out.old ++ classes_text soundings) }
+    {
+        for class in FIRST_CLASS..=LAST_CLASS {
+            print_class(class, self.judgement(class), out)?;
+        }
+        Ok(())
+    }
+}
+
+// Appends how many soundings the window holds.
+fn print_size(size: u32, out: &mut String) -> Result<(), AllocError>
+    ensures { OnOk result (string_bytes out.new ≡ string_bytes out.old ++ readings_text size) }
+{
+    writeln!(out, "readings {size}")
 }
 
 // Appends what is printed of a class.
@@ -109,7 +114,7 @@ impl Counter for Soundings {
 
     ghost reading = { key_of };
 
-    ghost came = { λ window. window.window.keeper.puts };
+    ghost came = { λ soundings. soundings.window.keeper.puts };
 
     ghost holds = { IsRightFor };
 
@@ -119,7 +124,7 @@ impl Counter for Soundings {
 
     fn new(heap: Global) -> Result<Soundings, AllocError> {
         let blank = SoundingKey {
-            sounder: BERTH,
+            sounder: BERTH_SOUNDER,
             band: band_of(0),
         };
         Ok(Soundings {
@@ -137,11 +142,11 @@ impl Counter for Soundings {
         let _ = self.window.take(sounding);
     }
 
-    fn print_end(&self, out: &mut String) -> Result<(), AllocError> {
-        writeln!(out, "readings {}", self.size())?;
-        for class in FIRST_CLASS..=LAST_CLASS {
-            print_class(class, self.judgement(class), out)?;
-        }
-        Ok(())
+    fn print_end(&self, out: &mut String) -> Result<(), AllocError>
+        ensures printed { (soundings : List SoundingKey) → IsRightFor self.now soundings → OnOk result (string_bytes out.new ≡ string_bytes out.old ++ soundings_text soundings) }
+        ensures right { (soundings : List SoundingKey) → IsRightFor self.now soundings → JudgesRight soundings }
+    {
+        print_size(self.window.size(), out)?;
+        self.print_classes(out)
     }
 }

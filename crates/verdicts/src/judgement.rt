@@ -6,12 +6,12 @@ ghost use Rattle.verdicts.specs.Verdicts.{judged, judgement_text, verdict_text};
 
 use std::fmt;
 
-/// What is said of a class: whether a quarter of the window's soundings, or more, were too shallow for it.
+/// What is said of a class: whether the sounder's soundings that were too shallow for it are a quarter of all in the window, or more.
 #[derive(Clone, Copy, PartialEq, Eq, Debug)]
 pub enum Verdict {
-    /// A quarter or more were: a ferry of this class is held.
+    /// They are: a ferry of this class is held.
     Held,
-    /// Less than a quarter were: the berth is clear for it.
+    /// They are less: the berth is clear for it.
     Clear,
     /// The counts are too far apart to say either, or the window is empty.
     Unsure,
@@ -21,7 +21,7 @@ pub enum Verdict {
 #[derive(Clone, Copy, PartialEq, Eq, Debug)]
 pub struct Judgement {
     pub verdict: Verdict,
-    /// At least so many soundings were too shallow.
+    /// At least so many of the sounder's soundings were too shallow.
     pub floor: u64,
     /// At most so many were.
     pub ceiling: u64,

@@ -1,33 +1,19 @@
-use Rattle.std.proofs.Common.{rules, ◌≡◌, ◌≤◌, ◌-◌, ℕ, List, ◌++◌, take, string_bytes, length, append_assoc, ap, ◌∙◌}
-use Rattle.std.specs.List.{flat_map}
+use Rattle.std.proofs.Common.{◌++◌, string_bytes, length, append_assoc, sym, ap, ◌∙◌}
+use Rattle.std.proofs.lemmas.Result.{IfOk-weaker}
 use Rattle.latest.specs.Latest.{latest}
-use Rattle.soundings.specs.Printed.{class_text, readings_text}
-use Rattle.soundings.specs.Soundings.{classes, judgement_on, most_soundings}
-use Rattle.soundings.proofs.Lines.{lines_more}
+use Rattle.soundings.specs.Printed.{readings_text}
+use Rattle.soundings.specs.Soundings.{classes_text, most_soundings}
+use Rattle.soundings.proofs.Judging.{judges_right, size_is}
 use Rattle.soundings.proofs.soundings.SoundingsCounter.print_end.Goals as goal
 
-pub loop-class-preserved : goal.loop-class-preserved
-loop-class-preserved c =
-    let h = c.loop-class.invariant in
-    let class = c.loop-class.class in
-    let last : class ≤ 6 = search rules in
-    let before = string_bytes c.writeln.new.self in
-    record {
-      first = search rules;
-      last = search rules;
-      text = λ soundings right.
-          let line : ℕ → List ℕ = λ k. class_text k (judgement_on soundings k) in
-          c.in_ok-print_class.ensures
-          ∙ ap (λ j. string_bytes c.loop-class.out ++ class_text class j) (c.judgement.ensures.value soundings right)
-          ∙ ap (λ t. t ++ line class) (h.text soundings right)
-          ∙ lines_more line before class h.first last;
-    }
+pub returns-in_err-print_size-clause-right : goal.returns-in_err-print_size-clause-right
+returns-in_err-print_size-clause-right c soundings right = judges_right c.self.inside.window c.self.invariant soundings (rw (sym c.self.view_is) at right)
 
-pub returns : goal.returns
-returns c soundings right =
-    let line : ℕ → List ℕ = λ k. class_text k (judgement_on soundings k) in
-    let all : c.loop-class.class - 1 ≡ 6 = search rules in
-    c.loop-class.invariant.text soundings right
-    ∙ ap (λ n. string_bytes c.writeln.new.self ++ flat_map line (take n classes)) all
-    ∙ ap (λ t. t ++ flat_map line classes) (c.in_ok-writeln.ensures.bytes ∙ ap (λ n. string_bytes c.args.out.now ++ readings_text n) (c.size.ensures soundings right))
-    ∙ append_assoc (string_bytes c.args.out.now) (readings_text (length (latest most_soundings soundings))) (flat_map line classes)
+pub returns-clause-right : goal.returns-clause-right
+returns-clause-right c soundings right = judges_right c.self.inside.window c.self.invariant soundings (rw (sym c.self.view_is) at right)
+
+pub returns-clause-printed : goal.returns-clause-printed
+returns-clause-printed c soundings right =
+    let size = c.size.ensures.value ∙ size_is c.self.inside.window c.self.invariant soundings (rw (sym c.self.view_is) at right) in
+    let told = c.in_ok-print_size.ensures ∙ ap (λ n. string_bytes c.args.out.now ++ readings_text n) size in
+    IfOk-weaker c.print_classes.result _ _ (λ done is. is ∙ ap (λ t. t ++ classes_text soundings) told ∙ append_assoc (string_bytes c.args.out.now) (readings_text (length (latest most_soundings soundings))) (classes_text soundings)) (c.print_classes.ensures soundings right)

@@ -3,7 +3,7 @@ use Rattle.std.specs.List.{flat_map}
 use Rattle.likeness.specs.declared.sounding.SoundingKey.{SoundingKey}
 use Rattle.soundings.specs.Printed.{class_text}
 use Rattle.soundings.specs.Soundings.{classes, IsRightFor, judgement_on}
-use Rattle.soundings.proofs.soundings.SoundingsCounter.print_end.Given as goal
+use Rattle.soundings.proofs.soundings.Soundings.print_classes.Given as goal
 
 -- The lines of the classes that have been gone through.
 abbrev pub invariant-loop-class : goal.invariant-loop-class
