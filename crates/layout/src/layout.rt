@@ -3,7 +3,7 @@
 ghost use Rattle.std.specs.Int.{leading_zeros, w32};
 ghost use Rattle.std.specs.Prelude.{◌≡◌, ◌+◌, ◌-◌, ◌*◌, ◌^◌, ◌<◌, ◌≤◌, All, Contains};
 ghost use Rattle.layout.specs.Blocks.{Stretch, visits_of};
-ghost use Rattle.layout.specs.Cases.{HeadCases, Ninety, RowCases, Seventeen};
+ghost use Rattle.layout.specs.Cases.{Ninety, Seventeen};
 ghost use Rattle.layout.specs.Covers.{cover_of, end_of, ignored_of, scale_of, start_of};
 ghost use Rattle.layout.specs.Inside.{IsLevel, IsShape, IsWalk};
 ghost use Rattle.layout.specs.Laws.{AreEnds, FillHeads, FillRows, IsCover, IsNear, IsScaleFor, IsVisit, IsWindow, longest};
@@ -69,7 +69,6 @@ impl Layout {
         ensures sum { result ≡ self.now.scales * rows_below self.now.top (self.now.top + 1) }
         ensures few { result < 2 ^ 21 }
         ensures filled { FillRows self.now result }
-        ensures cases { RowCases }
     {
         let last = self.last_level();
         last.first_row() + last.slots() as usize * last.rows()
@@ -81,7 +80,6 @@ impl Layout {
         ensures sum { result ≡ self.now.scales * heads_below self.now.top (self.now.top + 1) }
         ensures few { result < 2 ^ 16 }
         ensures filled { FillHeads self.now result }
-        ensures cases { HeadCases }
     {
         let last = self.last_level();
         last.first_head() + last.slots() as usize

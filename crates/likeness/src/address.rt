@@ -1,6 +1,6 @@
 //! Keys for kinds of sentence.
 
-ghost use Rattle.std.specs.Prelude.{◌≡◌, true, false, [], ◌∷◌};
+ghost use Rattle.std.specs.Prelude.{◌≡◌};
 ghost use Rattle.likeness.specs.Agree.{kind_of, same_kind};
 ghost use Rattle.likeness.specs.Laws;
 ghost use Rattle.likeness.specs.Laws.{address_part, address_decides};
@@ -35,8 +35,7 @@ impl Likeness for AddressKey {
     ghost transitive = { Laws.transitive address_part _ address_decides };
 
     fn is_alike(&self, other: &AddressKey) -> bool
-        ensures alike { result ≡ same_kind self.now.bytes other.now.bytes }
-        ensures worked { (same_kind (83 ∷ 68 ∷ 68 ∷ 80 ∷ 84 ∷ []) (73 ∷ 73 ∷ 68 ∷ 80 ∷ 84 ∷ []) ≡ true) × (same_kind (83 ∷ 68 ∷ 68 ∷ 80 ∷ 84 ∷ []) (83 ∷ 68 ∷ 68 ∷ 66 ∷ 84 ∷ []) ≡ false) }
+        ensures { result ≡ same_kind self.now.bytes other.now.bytes }
     {
         self.kind() == other.kind()
     }

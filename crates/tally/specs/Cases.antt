@@ -18,10 +18,8 @@ head_with used lost = record { used = used; lost = lost }
 abbrev pub last_digit : ℕ → ℕ → Bool
 last_digit x y = x % 10 == y % 10
 
--- the keys 1, 2, 1, 3 at a room of 2, and then 4, 2
+-- a row keeps the key that came first, where an alike one has other digits
 pub record Runs : Type 0 where
-  pub four : run nat_eq 2 (1 ∷ 2 ∷ 1 ∷ 3 ∷ []) ≡ summary (row_of 1 1 ∷ []) 1
-  pub six : run nat_eq 2 (1 ∷ 2 ∷ 1 ∷ 3 ∷ 4 ∷ 2 ∷ []) ≡ summary [] 2
   pub own_key : run last_digit 2 (11 ∷ 21 ∷ []) ≡ summary (row_of 11 2 ∷ []) 0
 
 -- one step in slots that hold what no run leaves there
