@@ -19,7 +19,7 @@ use ring::Ring;
 use serve::serve;
 use settings::Setting;
 use std::alloc::Global;
-use std::io::{self, Read, Write};
+use std::io::{self, ErrorKind, Read, Write};
 
 // The keeper, the kind of key, the accuracy and the span.
 type Header = [u8; 4];
@@ -51,12 +51,17 @@ fn main(rt: HostRuntime) -> io::Result<()> {
     let mut input = rt.stdin();
     let mut output = rt.stdout();
     let mut header = [0u8; 4];
-    let read = input.read_exact(&mut header);
-    match (read, header) {
-        (Ok(()), [b'R' | b'L', b'S', ..]) => {
+    match input.read_exact(&mut header) {
+        Ok(()) => {}
+        // of a header that is too short, no byte is looked at
+        Err(error) if error.kind() == ErrorKind::UnexpectedEof => header = [0; 4],
+        Err(error) => return Err(error),
+    }
+    match header {
+        [b'R' | b'L', b'S', ..] => {
             serve_keeper::<SoundingKey, _, _>(header, &mut input, &mut output, rt.alloc())
         }
-        (Ok(()), [b'R' | b'L', b'A', ..]) => {
+        [b'R' | b'L', b'A', ..] => {
             serve_keeper::<AddressKey, _, _>(header, &mut input, &mut output, rt.alloc())
         }
         _ => writeln!(output, "no header"),
