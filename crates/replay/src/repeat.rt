@@ -98,6 +98,30 @@ fn judged<K: Coded, P: Keeper<SoundingKey>>(
     }
 }
 
+/// A call that is made many times.
+#[derive(Clone, Copy)]
+enum Often {
+    Put,
+    Drop,
+    Count,
+    List,
+    Verdict,
+}
+
+impl Often {
+    // The call that a letter names, if it names one.
+    fn named(letter: u8) -> Option<Often> {
+        match letter {
+            b'P' => Some(Often::Put),
+            b'D' => Some(Often::Drop),
+            b'C' => Some(Often::Count),
+            b'L' => Some(Often::List),
+            b'V' => Some(Often::Verdict),
+            _ => None,
+        }
+    }
+}
+
 /// The sum of what a request's many calls answer, if there are such calls.
 pub(crate) fn repeat<K: Coded, P: Keeper<K> + Keeper<SoundingKey>>(
     stage: &mut Stage<P>,
@@ -107,17 +131,17 @@ pub(crate) fn repeat<K: Coded, P: Keeper<K> + Keeper<SoundingKey>>(
     draws: &mut Draws,
     request: &Request,
 ) -> Option<u64> {
+    let call = Often::named(request.what)?;
     let keys = request.key_number();
     let class = request.small % 6 + 1;
     let mut sum = 0u64;
     for _ in 0..request.number {
-        let added = match request.what {
-            b'P' => put(stage, rows, heads, draws.key_among(keys)).is_ok() as u64,
-            b'D' => drop_oldest(stage) as u64,
-            b'C' => count(stage, rows, heads, &draws.key_among(keys)).map_or(0, sum_of),
-            b'L' => listed(stage, rows, heads, list, keys),
-            b'V' => judged(stage, rows, heads, &draws.key_among::<K>(keys), class),
-            _ => return None,
+        let added = match call {
+            Often::Put => put(stage, rows, heads, draws.key_among(keys)).is_ok() as u64,
+            Often::Drop => drop_oldest(stage) as u64,
+            Often::Count => count(stage, rows, heads, &draws.key_among(keys)).map_or(0, sum_of),
+            Often::List => listed(stage, rows, heads, list, keys),
+            Often::Verdict => judged(stage, rows, heads, &draws.key_among::<K>(keys), class),
         };
         sum = sum.wrapping_add(added);
     }

@@ -1,0 +1,9 @@
+//! What the programs of two implementations cost, side by side.
+
+pub mod calls;
+pub mod lines;
+pub mod memory;
+pub mod pair;
+pub mod plot;
+pub mod sweep;
+pub mod table;
