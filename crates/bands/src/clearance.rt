@@ -1,7 +1,7 @@
 //! From a clearance to its band.
 
 ghost use Rattle.std.specs.Prelude.{◌≡◌, ℕ, ◌<◌, ◌≤◌, pos, negsuc, ◌<ℤ◌, ◌↔◌};
-ghost use Rattle.bands.specs.Bands.{band, limit};
+ghost use Rattle.bands.specs.Bands.{band, limit, limits};
 
 use super::Band;
 
@@ -21,6 +21,7 @@ fn limits_reached(clearance: i32) -> usize
 pub fn band_of(clearance: i32) -> Band
     ensures value { result ≡ band clearance }
     ensures short { (class : ℕ) → 1 ≤ class → class ≤ 6 → (result < class ↔ clearance <ℤ limit class) }
+    ensures limits { LIMITS ≡ limits }
     ensures worked { (band (pos 45) ≡ 0) × (band (pos 46) ≡ 1) × (band (pos 98) ≡ 6) × (band (negsuc 59) ≡ 0) }
 {
     Band {
