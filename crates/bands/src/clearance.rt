@@ -1,7 +1,7 @@
 //! From a clearance to its band.
 
 ghost use Rattle.std.specs.Prelude.{◌≡◌, ℕ, ◌<◌, ◌≤◌, ◌<ℤ◌, ◌↔◌};
-ghost use Rattle.bands.specs.Bands.{band, limit};
+ghost use Rattle.bands.specs.Bands.{band, limit, limits};
 
 use super::Band;
 
@@ -21,6 +21,7 @@ fn limits_reached(clearance: i32) -> usize
 pub fn band_of(clearance: i32) -> Band
     ensures value { result ≡ band clearance }
     ensures short { (class : ℕ) → 1 ≤ class → class ≤ 6 → (result < class ↔ clearance <ℤ limit class) }
+    ensures limits { LIMITS ≡ limits }
 {
     Band {
         value: limits_reached(clearance) as u8,

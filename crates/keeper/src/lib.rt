@@ -53,9 +53,19 @@ mod tests {
     }
 
     #[test]
-    fn a_refusal_in_words(rt: HostRuntime) -> Result<(), Fail> {
-        let text = format!(in rt.alloc(); "{}", Refusal::Threshold)?;
-        assert_eq!(rt; text.as_str(), "refused 10");
+    fn refusals_in_words(rt: HostRuntime) -> Result<(), Fail> {
+        let cases = [
+            (Refusal::ShortTable, "refused 4"),
+            (Refusal::ShortList, "refused 5"),
+            (Refusal::Spent, "refused 6"),
+            (Refusal::Full, "refused 7"),
+            (Refusal::Vacant, "refused 8"),
+            (Refusal::Threshold, "refused 10"),
+        ];
+        for (refusal, words) in cases {
+            let text = format!(in rt.alloc(); "{refusal}")?;
+            assert_eq!(rt; text.as_str(), words);
+        }
         Ok(())
     }
 

@@ -5,7 +5,7 @@ ghost use Rattle.lines.specs.Kept.{keep_byte, line_of, last_of, After};
 ghost use Rattle.lines.specs.Lines.{without_cr, shown, ended_line, last_line, CutRight, CutOnce};
 ghost use Rattle.std.specs.Option.{option_map, option_to_list};
 
-use super::{CR, Cutter, SHOWN};
+use super::{CR, Cutter, LF, SHOWN};
 use arrayvec::ArrayVec;
 
 // The part of a text that is handed out.
@@ -30,6 +30,7 @@ impl Cutter {
     /// A cutter at the start of a line.
     pub fn new() -> Cutter
         ensures empty { result ≡ [] }
+        ensures constants { (LF ≡ 10) × (CR ≡ 13) × (SHOWN ≡ 81) }
         ensures after { After result [] }
         ensures right { CutRight }
         ensures once { CutOnce }

@@ -32,6 +32,13 @@ fn used_list() -> [Entry<AddressKey>; 5] {
     }; 5]
 }
 
+// No ring can be cloned: one that could be would get this trait twice, and the tests would not compile.
+trait IsNotCloned {}
+
+impl<T: Clone> IsNotCloned for T {}
+
+impl IsNotCloned for Ring {}
+
 // Accuracy 3, and a window of up to 64 keys.
 fn fresh() -> Result<Ring, SettingRefusal> {
     let setting = Setting::new(3, 6)?;

@@ -74,8 +74,16 @@ mod tests {
 
     #[test]
     fn refusals_in_words(rt: HostRuntime) -> Result<(), Fail> {
-        let text = format!(in rt.alloc(); "{}", SentenceError::Checksum { column: 17 })?;
-        assert_eq!(rt; text.as_str(), "refused 13 at 17");
+        let cases = [
+            (SentenceError::Shape { column: 81 }, "refused 12 at 81"),
+            (SentenceError::Checksum { column: 17 }, "refused 13 at 17"),
+            (SentenceError::NotDepth, "refused 14 at 2"),
+            (SentenceError::NoClearance { column: 8 }, "refused 15 at 8"),
+        ];
+        for (error, words) in cases {
+            let text = format!(in rt.alloc(); "{error}")?;
+            assert_eq!(rt; text.as_str(), words);
+        }
         Ok(())
     }
 

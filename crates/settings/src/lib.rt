@@ -50,9 +50,15 @@ mod tests {
     }
 
     #[test]
-    fn a_refusal_in_words(rt: HostRuntime) -> Result<(), Fail> {
-        let text = format!(in rt.alloc(); "{}", SettingRefusal::Span)?;
-        assert_eq!(rt; text.as_str(), "refused 2");
+    fn refusals_in_words(rt: HostRuntime) -> Result<(), Fail> {
+        let cases = [
+            (SettingRefusal::Accuracy, "refused 1"),
+            (SettingRefusal::Span, "refused 2"),
+        ];
+        for (refusal, words) in cases {
+            let text = format!(in rt.alloc(); "{refusal}")?;
+            assert_eq!(rt; text.as_str(), words);
+        }
         Ok(())
     }
 }
