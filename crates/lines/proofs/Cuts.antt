@@ -4,6 +4,7 @@ use Rattle.std.specs.List.{flat_map, AllByRecursion}
 use Rattle.std.proofs.ByRecursion.{All-push, All-take}
 use Rattle.std.proofs.lemmas.List.{append-nil, append_assoc, length_push, get_or_push, take_at, take_more, take_all}
 use Rattle.std.proofs.lemmas.Bool.{cases_Bool, false≢true, eqb-true, eqb-false, eq-eqb, ne_eqb, cond_both}
+use Rattle.lines.specs.Ends.{IsPlain}
 use Rattle.lines.specs.Lines.{End, lf, cr_lf, none, Line, Cut, CutRight, CutOnce, end_bytes, line_bytes, but_last, ends_in_cr, without_cr, ended_line, last_line, lines_from, lines_of}
 
 -- All but the last of a list.
@@ -46,10 +47,7 @@ bytes_ended_line raw =
 
 -- The lines of an input are a right cut of it.
 
-abbrev Plain : List ℕ → Type 0
-Plain bytes = AllByRecursion (λ b. b ≡ 10 → ⊥) bytes
-
-cut_cons : (input : List ℕ) (line : Line) (lines : List Line) → Plain line.text → (line.end ≡ lf → ends_in_cr line.text ≡ false) → (line.end ≡ none → ⊥) → Cut input lines → Cut (line_bytes line ++ input) (line ∷ lines)
+cut_cons : (input : List ℕ) (line : Line) (lines : List Line) → IsPlain line.text → (line.end ≡ lf → ends_in_cr line.text ≡ false) → (line.end ≡ none → ⊥) → Cut input lines → Cut (line_bytes line ++ input) (line ∷ lines)
 cut_cons input line lines plain stripped ended cut = record {
   whole = ap (λ bytes. line_bytes line ++ bytes) cut.whole;
   plain = (plain, cut.plain);
@@ -58,14 +56,14 @@ cut_cons input line lines plain stripped ended cut = record {
   filled = ((λ is _. ended is), cut.filled);
 }
 
-cut_ended : (input raw : List ℕ) (lines : List Line) → Plain raw → Cut input lines → Cut (raw ++ 10 ∷ input) (ended_line raw ∷ lines)
+cut_ended : (input raw : List ℕ) (lines : List Line) → IsPlain raw → Cut input lines → Cut (raw ++ 10 ∷ input) (ended_line raw ∷ lines)
 cut_ended input raw lines plain cut = rw (sym bytes) (cut_cons input (ended_line raw) lines text stripped ended cut)
   where
     bytes : line_bytes (ended_line raw) ++ input ≡ raw ++ 10 ∷ input
     bytes = ap (λ xs. xs ++ input) (bytes_ended_line raw) ∙ append_assoc raw (10 ∷ []) input
 
-    text : Plain (without_cr raw)
-    text = cond_both (ends_in_cr raw) (but_last raw) raw Plain (λ _. All-take (λ b. b ≡ 10 → ⊥) (length raw - 1) raw plain) (λ _. plain)
+    text : IsPlain (without_cr raw)
+    text = cond_both (ends_in_cr raw) (but_last raw) raw IsPlain (λ _. All-take (λ b. b ≡ 10 → ⊥) (length raw - 1) raw plain) (λ _. plain)
 
     stripped : cond (ends_in_cr raw) cr_lf lf ≡ lf → ends_in_cr (without_cr raw) ≡ false
     stripped is = grind arith
@@ -73,7 +71,7 @@ cut_ended input raw lines plain cut = rw (sym bytes) (cut_cons input (ended_line
     ended : cond (ends_in_cr raw) cr_lf lf ≡ none → ⊥
     ended is = grind arith
 
-cut_last : (raw : List ℕ) → Plain raw → Cut raw (last_line raw)
+cut_last : (raw : List ℕ) → IsPlain raw → Cut raw (last_line raw)
 cut_last [] plain = record { whole = refl; plain = tt; stripped = tt; ended = tt; filled = tt }
 cut_last (b ∷ bs) plain = record {
   whole = append-nil _ ∙ append-nil (b ∷ bs);
@@ -83,7 +81,7 @@ cut_last (b ∷ bs) plain = record {
   filled = ((λ _ is. grind arith), tt);
 }
 
-cut_from : (raw bs : List ℕ) → Plain raw → Cut (raw ++ bs) (lines_from raw bs)
+cut_from : (raw bs : List ℕ) → IsPlain raw → Cut (raw ++ bs) (lines_from raw bs)
 cut_from raw [] plain = rw (append-nil raw) (cut_last raw plain)
 cut_from raw (b ∷ bs) plain =
     ⊎_elim
@@ -96,7 +94,7 @@ right input = cut_from [] input tt
 
 -- A right cut is the lines of the input.
 
-lines_from_plain : (raw text rest : List ℕ) → Plain text → lines_from raw (text ++ rest) ≡ lines_from (raw ++ text) rest
+lines_from_plain : (raw text rest : List ℕ) → IsPlain text → lines_from raw (text ++ rest) ≡ lines_from (raw ++ text) rest
 lines_from_plain raw [] rest plain = ap (λ xs. lines_from xs rest) (sym (append-nil raw))
 lines_from_plain raw (b ∷ bs) rest plain = rw (ne_eqb b 10 plain.0) (lines_from_plain (raw ++ b ∷ []) bs rest plain.1 ∙ ap (λ xs. lines_from xs rest) (append_assoc raw (b ∷ []) bs))
 

@@ -1,6 +1,7 @@
 -- What the lines of an input are. A byte is a number; 10 is LF and 13 is CR.
 use Rattle.std.specs.Prelude.{◌≡◌, ℕ, ◌-◌, Bool, false, if◌then◌else◌, List, [], ◌∷◌, ◌++◌, length, take, ◌==◌, ◌≢◌, slice_index}
 use Rattle.std.specs.List.{flat_map, AllByRecursion}
+use Rattle.lines.specs.Ends.{IsPlain}
 
 -- How a line ends: with LF alone, with CR and LF, or, where the input ends, with nothing.
 pub data End : Type 0 where
@@ -62,7 +63,7 @@ pub record Cut (input : List ℕ) (lines : List Line) : Type 0 where
   -- The lines, one after another, are the input.
   pub whole : flat_map line_bytes lines ≡ input
   -- No text has an LF.
-  pub plain : AllByRecursion (λ line. AllByRecursion (λ b. b ≢ 10) line.text) lines
+  pub plain : AllByRecursion (λ line. IsPlain line.text) lines
   -- A CR before the LF that ends a line belongs to the end.
   pub stripped : AllByRecursion (λ line. line.end ≡ lf → ends_in_cr line.text ≡ false) lines
   -- Each line but the last has an end.

@@ -1,7 +1,7 @@
 //! The calls of a cutter.
 
 ghost use Rattle.std.specs.Prelude.{◌≡◌, ℕ, ◌≤◌, List, [], ◌∷◌, ◌++◌, map, length, take};
-ghost use Rattle.lines.specs.Kept.{keep_byte, line_of, last_of, After};
+ghost use Rattle.lines.specs.Kept.{keep_byte, keep_bytes, line_of, last_of, After};
 ghost use Rattle.lines.specs.Lines.{without_cr, shown, ended_line, last_line, CutRight, CutOnce};
 ghost use Rattle.std.specs.Option.{option_map, option_to_list};
 
@@ -51,6 +51,18 @@ impl Cutter {
         }
     }
 
+    /// Takes more bytes of the line under way, one after another.
+    // At once, since most lines come whole.
+    pub fn keep_all(&mut self, bytes: &[u8])
+        ensures kept { self.new ≡ keep_bytes self.old bytes.now }
+        ensures fits { length self.new ≤ 82 }
+        ensures after { (raw : List ℕ) → After self.old raw → After self.new (raw ++ bytes.now) }
+    {
+        let room = self.bytes.remaining_capacity();
+        let fitting = &bytes[..room.min(bytes.len())];
+        let _ = self.bytes.try_extend_from_slice(fitting);
+    }
+
     /// The first 81 bytes of the text of the line that an LF ends now.
     #[tactic(auto, using(crate::proofs::Keeps::line_of_take))]
     pub fn line(&self) -> &[u8]
@@ -89,10 +101,16 @@ mod tests {
 
     fn fed(bytes: &[u8]) -> Cutter {
         let mut cutter = Cutter::new();
-        for byte in bytes {
-            cutter.keep(*byte);
-        }
+        cutter.keep_all(bytes);
         cutter
+    }
+
+    #[test]
+    fn bytes_come_one_by_one_or_at_once(rt: HostRuntime) {
+        let mut cutter = fed(b"a");
+        cutter.keep(b'b');
+        cutter.keep_all(b"cd");
+        assert!(rt; cutter.line() == &b"abcd"[..]);
     }
 
     #[test]

@@ -10,6 +10,9 @@ use arrayvec::ArrayVec;
 use std::marker::Model;
 
 mod calls;
+mod ends;
+
+pub use ends::split_at_lf;
 
 /// The line feed, which ends a line.
 pub const LF: u8 = 10;

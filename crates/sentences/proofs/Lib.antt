@@ -5,6 +5,7 @@ pub mod Faults
 pub mod Laws
 pub mod Leading
 pub mod Numbers
+pub mod Parts
 pub mod Places
 pub mod Readings
 pub mod Runs

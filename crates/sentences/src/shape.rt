@@ -1,6 +1,8 @@
 //! The shape of a sentence, and its parts by it.
 
-ghost use Rattle.std.specs.Prelude.{◌≡◌};
+ghost use Rattle.std.specs.Prelude.{◌≡◌, IsTrue, None, true};
+ghost use Rattle.std.specs.List.{AllByRecursion};
+ghost use Rattle.sentences.specs.Format.{CommaFirst};
 ghost use Rattle.sentences.specs.Bytes.{is_address_byte, is_field_byte, is_hex_digit};
 ghost use Rattle.sentences.specs.Reader.{address_bytes, fields_of, sum_checked};
 ghost use Rattle.sentences.specs.Shape.{after, end_fault, shape_fault, unless_fault};
@@ -77,6 +79,48 @@ impl Expect {
     }
 }
 
+// Refuses the first wrong column.
+fn check_columns(bytes: &[u8]) -> Result<(), SentenceError>
+    ensures { result ≡ unless_fault (shape_fault bytes.now) tt }
+{
+    let mut expect = Expect::Dollar;
+    for (column, byte) in (1..).zip(bytes) {
+        if column > LONGEST {
+            return Err(SentenceError::Shape { column });
+        }
+        expect = expect.after(*byte).ok_or(SentenceError::Shape { column })?;
+    }
+    expect.end(bytes.len() + 1)
+}
+
+// Whether these can be the fields of a sentence: none, or a comma first.
+fn are_fields(bytes: &[u8]) -> bool
+    ensures { IsTrue result → CommaFirst bytes.now × AllByRecursion (λ b. is_field_byte b ≡ true) bytes.now }
+{
+    matches!(bytes, [] | [b',', ..]) && bytes.iter().all(|byte| is_field_byte(*byte))
+}
+
+// Whether these are the address, the fields and the digits of some sentence.
+fn are_parts(address: [u8; 5], fields: &[u8], digits: [u8; 2]) -> bool
+    ensures { IsTrue result → AllByRecursion (λ b. is_address_byte b ≡ true) address × CommaFirst fields.now × AllByRecursion (λ b. is_field_byte b ≡ true) fields.now × AllByRecursion (λ b. is_hex_digit b ≡ true) digits }
+{
+    address.iter().all(|byte| is_address_byte(*byte))
+        && are_fields(fields)
+        && digits.iter().all(|byte| is_hex_digit(*byte))
+}
+
+// Whether each part of bytes, by where it has to lie, is right. Then no column is wrong.
+fn is_shaped(bytes: &[u8]) -> bool
+    ensures { IsTrue result → shape_fault bytes.now ≡ None }
+{
+    match bytes {
+        [b'$', a, b, c, d, e, fields @ .., b'*', high, low] if bytes.len() <= LONGEST => {
+            are_parts([*a, *b, *c, *d, *e], fields, [*high, *low])
+        }
+        _ => false,
+    }
+}
+
 // Bytes that have the shape of a sentence. The shortest has `$`, an address, `*` and two digits.
 #[derive(Drop)]
 pub(crate) struct ShapedBytes<'a> {
@@ -98,14 +142,10 @@ impl<'a> ShapedBytes<'a> {
     pub(crate) fn read(bytes: &'a [u8]) -> Result<Self, SentenceError>
         ensures { result ≡ unless_fault (shape_fault bytes.now) bytes.now }
     {
-        let mut expect = Expect::Dollar;
-        for (column, byte) in (1..).zip(bytes) {
-            if column > LONGEST {
-                return Err(SentenceError::Shape { column });
-            }
-            expect = expect.after(*byte).ok_or(SentenceError::Shape { column })?;
+        // Most sentences are right, and need no look at their columns one by one.
+        if !is_shaped(bytes) {
+            check_columns(bytes)?;
         }
-        expect.end(bytes.len() + 1)?;
         Ok(ShapedBytes { bytes })
     }
 

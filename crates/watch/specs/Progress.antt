@@ -2,7 +2,7 @@
 use Rattle.std.specs.Prelude.{◌≡◌, ℕ, ◌+◌, if◌then◌else◌, List, [], ◌∷◌, ◌++◌, fold, Result, ◌==◌, nat_lt}
 use Rattle.std.specs.List.{flat_map}
 use Rattle.std.specs.Option.{option_to_list}
-use Rattle.lines.specs.Kept.{keep_byte, line_of, last_of}
+use Rattle.lines.specs.Kept.{keep_byte, keep_bytes, line_of, last_of}
 use Rattle.sentences.specs.declared.error.SentenceError.{SentenceError}
 use Rattle.watch.specs.Report.{most_lines, lines_report, values_of}
 
@@ -36,6 +36,10 @@ take_byte p b =
 
 abbrev pub byte_texts : Progress → ℕ → List (List ℕ)
 byte_texts p b = if b == 10 then treated p.lines (line_of p.kept) else []
+
+-- More bytes of the line under way come, of which none is an LF.
+abbrev pub kept_more : Progress → List ℕ → Progress
+kept_more p bs = record { kept = keep_bytes p.kept bs; lines = p.lines }
 
 -- Bytes come, and these are the texts of the lines that are treated meanwhile.
 

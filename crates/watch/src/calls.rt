@@ -2,13 +2,13 @@
 
 ghost use Rattle.std.specs.Prelude.{◌≡◌, ℕ, ◌+◌, ◌≤◌, List, [], ◌++◌, string_bytes, IfOk, OnOk, ◌==◌};
 ghost use Rattle.lines.specs.Lines.{CutRight};
-ghost use Rattle.watch.specs.Progress.{byte_texts, bytes_text, bytes_values, Fed, last_text, start, take_byte, take_bytes};
+ghost use Rattle.watch.specs.Progress.{byte_texts, bytes_text, bytes_values, Fed, kept_more, last_text, start, take_byte, take_bytes};
 ghost use Rattle.watch.specs.Report.{lines_report, most_lines, report, values_of};
 
 use crate::counter::Counter;
 use crate::treat::Counts;
 use crate::{MOST_LINES, Watch};
-use lines::{Cutter, LF};
+use lines::{Cutter, split_at_lf};
 use std::alloc::{AllocError, Global};
 
 impl<C: Counter> Watch<C> {
@@ -26,18 +26,15 @@ impl<C: Counter> Watch<C> {
         })
     }
 
-    // Takes one byte: an LF ends the line under way, which is treated then.
-    fn take(&mut self, byte: u8, out: &mut String) -> Result<(), AllocError>
-        ensures value { OnOk result (self.new.progress ≡ take_byte self.old.progress byte) }
-        ensures counted { OnOk result ((values : List C.Value) → C.holds self.old.counter values → C.holds self.new.counter (values ++ values_of C.reading (byte_texts self.old.progress byte))) }
-        ensures text { OnOk result (string_bytes out.new ≡ string_bytes out.old ++ lines_report C.reading (self.old.progress.lines + 1) (byte_texts self.old.progress byte)) }
+    // Takes what is left of the line under way, which an LF ends then, and treats it.
+    fn end_line(&mut self, rest: &[u8], out: &mut String) -> Result<(), AllocError>
+        ensures value { OnOk result (self.new.progress ≡ take_byte (kept_more self.old.progress rest.now) 10) }
+        ensures counted { OnOk result ((values : List C.Value) → C.holds self.old.counter values → C.holds self.new.counter (values ++ values_of C.reading (byte_texts (kept_more self.old.progress rest.now) 10))) }
+        ensures text { OnOk result (string_bytes out.new ≡ string_bytes out.old ++ lines_report C.reading (self.old.progress.lines + 1) (byte_texts (kept_more self.old.progress rest.now) 10)) }
     {
-        if byte == LF {
-            self.counts.treat(self.cutter.line(), out)?;
-            self.cutter.clear();
-        } else {
-            self.cutter.keep(byte);
-        }
+        self.cutter.keep_all(rest);
+        self.counts.treat(self.cutter.line(), out)?;
+        self.cutter.clear();
         Ok(())
     }
 
@@ -48,9 +45,12 @@ impl<C: Counter> Watch<C> {
         ensures text { OnOk result (string_bytes out.new ≡ string_bytes out.old ++ bytes_text C.reading self.old.progress piece.now) }
         ensures fed { (input said : List ℕ) → Fed C.reading C.holds self.old input said → OnOk result (Fed C.reading C.holds self.new (input ++ piece.now) (said ++ bytes_text C.reading self.old.progress piece.now)) }
     {
-        for byte in piece {
-            self.take(*byte, out)?;
+        let mut rest = piece;
+        while let Some((line, behind)) = split_at_lf(rest) {
+            self.end_line(line, out)?;
+            rest = behind;
         }
+        self.cutter.keep_all(rest);
         Ok(())
     }
 

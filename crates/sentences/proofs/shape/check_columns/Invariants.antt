@@ -1,6 +1,6 @@
 use Rattle.std.proofs.Common.{◌≡◌, ◌+◌, length}
 use Rattle.sentences.specs.Shape.{fault_from, shape_fault}
-use Rattle.sentences.proofs.shape.ShapedBytes.read.Given as goal
+use Rattle.sentences.proofs.shape.check_columns.Given as goal
 
 -- what is left gives the same first wrong column
 abbrev pub invariant-loop-column : goal.invariant-loop-column
