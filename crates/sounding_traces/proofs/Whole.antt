@@ -10,28 +10,20 @@ use Rattle.keeper.specs.Figures.{Figures}
 use Rattle.traces.specs.Account.{Account, Terms, blank}
 use Rattle.traces.specs.Determined.{Determined}
 use Rattle.traces.specs.Sequences.{AllMeet}
-use Rattle.traces.specs.Stages.{Follows}
-use Rattle.traces.proofs.Progress.{SoFar, all_meet_weaker, so_far_step}
+use Rattle.traces.specs.Stages.{Follows, Place}
+use Rattle.traces.specs.Traces.{Came}
+use Rattle.traces.proofs.Progress.{SoFar, all_meet_weaker, came_more, so_far_step}
 use Rattle.traces.proofs.Whole.{step_at}
 use Rattle.sounding_traces.specs.declared.calls.SoundingAnswer.{SoundingAnswer}
 use Rattle.sounding_traces.specs.declared.calls.SoundingAnswer.TheVariants.{Answered, Judged}
 use Rattle.sounding_traces.specs.declared.calls.SoundingCall.{SoundingCall}
 use Rattle.sounding_traces.specs.declared.calls.SoundingCall.TheVariants.{Plain, Ask}
 use Rattle.sounding_traces.specs.Model.{AllGive, Conform, Gives, Meets, next}
-use Rattle.sounding_traces.specs.Traces.{AllPerformed, Came, Performed, Place, written}
+use Rattle.sounding_traces.specs.Traces.{Performed, written}
 use Rattle.sounding_traces.proofs.Due.{verdict_due, verdict_exact}
 
 module _ {P : Type 0} (figures : P → Figures) (holds : P → List (Row SoundingKey) → List Head → List SoundingKey → List SoundingKey → Type 0) (need : ℕ → ℕ → Lengths)
     (bracket : P → List (Row SoundingKey) → List Head → SoundingKey → ℕ × ℕ) (listing : P → List (Row SoundingKey) → List Head → ℕ → List (Entry SoundingKey)) where
-  -- one call more
-  performed_more : (p q r : Place P) (calls : List SoundingCall) (answers : List (SoundingAnswer (List (Entry SoundingKey)))) (call : SoundingCall) (answer : SoundingAnswer (List (Entry SoundingKey)))
-      → AllPerformed figures holds need bracket listing p calls answers q → Performed figures holds need bracket listing q call answer r
-      → AllPerformed figures holds need bracket listing p (calls ++ call ∷ []) (answers ++ answer ∷ []) r
-  performed_more p q r [] [] call answer all one = (r, subst (λ q. Performed figures holds need bracket listing q call answer r) all one, refl)
-  performed_more p q r [] (told ∷ answers) call answer all one = absurd all
-  performed_more p q r (first ∷ calls) [] call answer all one = absurd all
-  performed_more p q r (first ∷ calls) (told ∷ answers) call answer all one = (all.0, all.1, performed_more all.0 q r calls answers call answer all.2 one)
-
   module _ (t : Terms) where
     -- an answer is the one that is due, and gives exactly what follows, by whatever functions the keeper's follow by
     abbrev RightAndExact : ℕ → Account SoundingKey → SoundingCall → SoundingAnswer (List (Entry SoundingKey)) → Type 0
@@ -51,14 +43,14 @@ module _ {P : Type 0} (figures : P → Figures) (holds : P → List (Row Soundin
 
     module _ (rows : List (Row SoundingKey)) (heads : List Head) (list : List (Entry SoundingKey)) where
       -- how far the account and the answers have come, on these tables and with this list
-      abbrev Told : List SoundingCall → List (SoundingAnswer (List (Entry SoundingKey))) → Place P → Type 0
+      abbrev Told : List SoundingCall → List (SoundingAnswer (List (Entry SoundingKey))) → Place P SoundingKey → Type 0
       Told calls answers p = SoFar (next t) (RightAndExact (length list)) (Follows figures holds need t) written t.need blank rows heads list calls p.stage answers p.rows p.heads p.list
 
       -- and the calls themselves
-      abbrev pub SoundingsSoFar : List SoundingCall → List (SoundingAnswer (List (Entry SoundingKey))) → Place P → Type 0
-      SoundingsSoFar calls answers p = Told calls answers p × Came figures holds need bracket listing t.accuracy t.span calls rows heads list answers p
+      abbrev pub SoundingsSoFar : List SoundingCall → List (SoundingAnswer (List (Entry SoundingKey))) → Place P SoundingKey → Type 0
+      SoundingsSoFar calls answers p = Told calls answers p × Came figures holds (Performed figures holds need bracket listing) t.accuracy t.span calls rows heads list answers p
 
-      told_more : (calls : List SoundingCall) (answers : List (SoundingAnswer (List (Entry SoundingKey)))) (call : SoundingCall) (answer : SoundingAnswer (List (Entry SoundingKey))) (p q : Place P)
+      told_more : (calls : List SoundingCall) (answers : List (SoundingAnswer (List (Entry SoundingKey)))) (call : SoundingCall) (answer : SoundingAnswer (List (Entry SoundingKey))) (p q : Place P SoundingKey)
           → Told calls answers p → Performed figures holds need bracket listing p call answer q → length q.list ≡ length p.list → Told (calls ++ call ∷ []) (answers ++ answer ∷ []) q
       told_more calls answers (Plain call) (Answered answer) p q h e room =
           let st = h.stands in
@@ -77,10 +69,10 @@ module _ {P : Type 0} (figures : P → Figures) (holds : P → List (Row Soundin
       told_more calls answers (Plain call) (Judged r) p q h e room = absurd e
       told_more calls answers (Ask sounder class) (Answered answer) p q h e room = absurd e
 
-      pub soundings_step : {calls : List SoundingCall} {answers : List (SoundingAnswer (List (Entry SoundingKey)))} {p : Place P} → SoundingsSoFar calls answers p
-          → (q : Place P) (call : SoundingCall) (answer : SoundingAnswer (List (Entry SoundingKey))) → Performed figures holds need bracket listing p call answer q → length q.list ≡ length p.list
+      pub soundings_step : {calls : List SoundingCall} {answers : List (SoundingAnswer (List (Entry SoundingKey)))} {p : Place P SoundingKey} → SoundingsSoFar calls answers p
+          → (q : Place P SoundingKey) (call : SoundingCall) (answer : SoundingAnswer (List (Entry SoundingKey))) → Performed figures holds need bracket listing p call answer q → length q.list ≡ length p.list
           → SoundingsSoFar (calls ++ call ∷ []) (answers ++ answer ∷ []) q
       soundings_step {calls} {answers} {p} h q call answer e room = (
         told_more calls answers call answer p q h.0 e room,
-        record { keeper = h.1.keeper; fresh = h.1.fresh; performed = performed_more _ p q calls answers call answer h.1.performed e },
+        came_more figures holds (Performed figures holds need bracket listing) h.1 q call answer e,
       )

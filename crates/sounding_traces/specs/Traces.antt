@@ -1,5 +1,5 @@
 -- What the run of a trace on soundings promises. Assumes nothing.
-use Rattle.std.specs.Prelude.{◌≡◌, ℕ, List, [], ◌∷◌, drop, length, fold, map}
+use Rattle.std.specs.Prelude.{◌≡◌, ℕ, List, drop, length, fold, map}
 use Rattle.likeness.specs.Agree.{same_sounding}
 use Rattle.likeness.specs.declared.sounding.SoundingKey.{SoundingKey}
 use Rattle.tally.specs.declared.rows.Head.{Head}
@@ -7,15 +7,13 @@ use Rattle.tally.specs.declared.rows.Row.{Row}
 use Rattle.keeper.specs.declared.entry.Entry.{Entry}
 use Rattle.keeper.specs.declared.lengths.Lengths.{Lengths}
 use Rattle.keeper.specs.Figures.{Figures}
-use Rattle.keeper.specs.Rules.{Fresh}
 use Rattle.verdicts.specs.Rules as verdicts
-use Rattle.traces.specs.declared.stage.Stage.{Stage}
-use Rattle.traces.specs.declared.stage.Stage.TheVariants.{Keeper}
 use Rattle.traces.specs.Account.{blank}
 use Rattle.traces.specs.Determined.{Determined}
 use Rattle.traces.specs.Stages as plain
-use Rattle.traces.specs.Stages.{Follows, keeper_of, terms_of}
-use Rattle.traces.specs.Steps.{StepsTelling}
+use Rattle.traces.specs.Stages.{Follows, keeper_of, Place, terms_of}
+use Rattle.traces.specs.Traces as plain_traces
+use Rattle.traces.specs.Traces.{Came}
 use Rattle.sounding_traces.specs.declared.calls.SoundingAnswer.{SoundingAnswer}
 use Rattle.sounding_traces.specs.declared.calls.SoundingAnswer.TheVariants.{Answered, Judged}
 use Rattle.sounding_traces.specs.declared.calls.SoundingCall.{SoundingCall}
@@ -28,41 +26,21 @@ abbrev pub written : List (Entry SoundingKey) → SoundingAnswer (List (Entry So
 written list (Answered answer) = plain.written list answer
 written list (Judged r) = list
 
--- what a call finds and leaves: the stage, the tables and the list
-pub record Place (P : Type 0) : Type 0 where
-  pub stage : Stage P
-  pub rows : List (Row SoundingKey)
-  pub heads : List Head
-  pub list : List (Entry SoundingKey)
-
 module _ {P : Type 0} (figures : P → Figures) (holds : P → List (Row SoundingKey) → List Head → List SoundingKey → List SoundingKey → Type 0) (need : ℕ → ℕ → Lengths)
     (bracket : P → List (Row SoundingKey) → List Head → SoundingKey → ℕ × ℕ) (listing : P → List (Row SoundingKey) → List Head → ℕ → List (Entry SoundingKey)) where
   -- one call: a plain one, or a verdict, which is the rule's of the keeper's own counts and changes nothing
-  abbrev pub Performed : Place P → SoundingCall → SoundingAnswer (List (Entry SoundingKey)) → Place P → Type 0
-  Performed p (Plain call) (Answered answer) p' =
-      StepsTelling figures holds need same_sounding bracket listing p.stage p.rows p.heads p.list call p'.stage answer p'.rows p'.heads p'.list
+  abbrev pub Performed : Place P SoundingKey → SoundingCall → SoundingAnswer (List (Entry SoundingKey)) → Place P SoundingKey → Type 0
+  Performed p (Plain call) (Answered answer) p' = plain_traces.Performed figures holds need same_sounding bracket listing p call answer p'
   Performed p (Ask sounder class) (Judged r) p' =
       verdicts.Judged figures holds need bracket (keeper_of p.stage) p.rows p.heads sounder class r × (p' ≡ p)
   Performed p call answer p' = ⊥
-
-  -- calls one after the other, each where the one before it left off
-  abbrev pub AllPerformed : Place P → List SoundingCall → List (SoundingAnswer (List (Entry SoundingKey))) → Place P → Type 0
-  AllPerformed p [] [] p' = p' ≡ p
-  AllPerformed p (call ∷ calls) (answer ∷ answers) p' = (q : Place P) × Performed p call answer q × AllPerformed q calls answers p'
-  AllPerformed p calls answers p' = ⊥
-
-  -- a place that calls lead to from a keeper as it is made, beside these tables and this list
-  pub record Came (a k : ℕ) (calls : List SoundingCall) (rows : List (Row SoundingKey)) (heads : List Head) (list : List (Entry SoundingKey)) (answers : List (SoundingAnswer (List (Entry SoundingKey)))) (p : Place P) : Type 0 where
-    pub keeper : P
-    pub fresh : Fresh figures holds a k keeper
-    pub performed : AllPerformed (record { stage = Keeper keeper; rows = rows; heads = heads; list = list }) calls answers p
 
   -- a whole trace of a setting, on these tables and with this list
   pub record SoundingRuns (a k : ℕ) (calls : List SoundingCall) (rows : List (Row SoundingKey)) (heads : List Head) (list : List (Entry SoundingKey)) (trace : SoundingTrace P) (rows' : List (Row SoundingKey)) (heads' : List Head) (list' : List (Entry SoundingKey)) : Type 0 where
     -- each answer is right by the account as it is then
     pub right : Conform (terms_of need a k rows heads) (length list) blank calls (map (told_as (λ entries. entries.items)) trace.answers.items)
     -- each is the keeper's own, where the call before it left it: counts and lists, and the rule's verdicts of its own counts
-    pub own : Came a k calls rows heads list (map (told_as (λ entries. entries.items)) trace.answers.items) (record { stage = trace.stage; rows = rows'; heads = heads'; list = list' })
+    pub own : Came figures holds Performed a k calls rows heads list (map (told_as (λ entries. entries.items)) trace.answers.items) (record { stage = trace.stage; rows = rows'; heads = heads'; list = list' })
     -- and exactly what follows from the account, whatever functions of past and window the keeper's counts and lists follow by
     pub exact : (counts : ℕ → ℕ → List SoundingKey → List SoundingKey → SoundingKey → ℕ × ℕ) (lists : ℕ → ℕ → List SoundingKey → List SoundingKey → ℕ → List (Entry SoundingKey)) → Determined figures holds bracket listing counts lists
         → AllGive (counts a k) (lists a k) (terms_of need a k rows heads) blank calls (map (told_as (λ entries. entries.items)) trace.answers.items)

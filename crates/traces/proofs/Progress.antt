@@ -1,11 +1,14 @@
 -- Calls performed one after the other, of whatever kind, on tables and with a list that are lent. Assumes nothing.
-use Rattle.std.proofs.Common.{◌≡◌, List, [], ◌∷◌, ◌++◌, length, drop, fold, refl, sym, ap, ◌∙◌}
+use Rattle.std.proofs.Common.{◌≡◌, ℕ, List, [], ◌∷◌, ◌++◌, length, drop, fold, refl, sym, ap, subst, ◌∙◌}
 use Rattle.std.proofs.lemmas.List.Sums.{fold-append}
 use Rattle.tally.specs.declared.rows.Head.{Head}
 use Rattle.tally.specs.declared.rows.Row.{Row}
 use Rattle.keeper.specs.declared.entry.Entry.{Entry}
 use Rattle.keeper.specs.declared.lengths.Lengths.{Lengths}
-use Rattle.traces.specs.Sequences.{AllMeet}
+use Rattle.keeper.specs.Figures.{Figures}
+use Rattle.traces.specs.Sequences.{AllMeet, AllPerformed}
+use Rattle.traces.specs.Stages.{Place}
+use Rattle.traces.specs.Traces.{Came}
 
 module _ {A C R : Type 0} (next : A → C → A) (meets : A → C → R → Type 0) where
   -- where all answers meet one thing, they meet what is weaker
@@ -23,6 +26,15 @@ module _ {A C R : Type 0} (next : A → C → A) (meets : A → C → R → Type
   all_meet_more a [] (told ∷ answers) call answer all met = absurd all
   all_meet_more a (first ∷ calls) [] call answer all met = absurd all
   all_meet_more a (first ∷ calls) (told ∷ answers) call answer all met = (all.0, all_meet_more (next a first) calls answers call answer all.1 met)
+
+module _ {S C R : Type 0} (performed : S → C → R → S → Type 0) where
+  -- one call more
+  pub performed_more : (s s1 s2 : S) (calls : List C) (answers : List R) (call : C) (answer : R)
+      → AllPerformed performed s calls answers s1 → performed s1 call answer s2 → AllPerformed performed s (calls ++ call ∷ []) (answers ++ answer ∷ []) s2
+  performed_more s s1 s2 [] [] call answer all one = (s2, subst (λ s1. performed s1 call answer s2) all one, refl)
+  performed_more s s1 s2 [] (told ∷ answers) call answer all one = absurd all
+  performed_more s s1 s2 (first ∷ calls) [] call answer all one = absurd all
+  performed_more s s1 s2 (first ∷ calls) (told ∷ answers) call answer all one = (all.0, all.1, performed_more all.0 s1 s2 calls answers call answer all.2 one)
 
 -- `next`, `meets`: the account after a call, and which answers are right. `follows`: a stage stands where the account is. `written`: the
 -- list after an answer. `need`: as much of the tables as may change. `begin`: the account at first, with these tables and this list.
@@ -64,3 +76,10 @@ module _ {A C R S K : Type 0} {next : A → C → A} {meets : A → C → R → 
     rows_rest = rows_rest ∙ h.rows_rest;
     heads_rest = heads_rest ∙ h.heads_rest;
   }
+
+module _ {P K C R : Type 0} (figures : P → Figures) (holds : P → List (Row K) → List Head → List K → List K → Type 0) (performed : Place P K → C → R → Place P K → Type 0) where
+  -- one call more, from a keeper as it was made
+  pub came_more : {a k : ℕ} {calls : List C} {rows : List (Row K)} {heads : List Head} {list : List (Entry K)} {answers : List R} {p : Place P K}
+      → Came figures holds performed a k calls rows heads list answers p → (q : Place P K) (call : C) (answer : R) → performed p call answer q
+      → Came figures holds performed a k (calls ++ call ∷ []) rows heads list (answers ++ answer ∷ []) q
+  came_more {calls} {answers} {p} h q call answer one = record { keeper = h.keeper; fresh = h.fresh; all = performed_more performed _ p q calls answers call answer h.all one }

@@ -13,9 +13,10 @@ use Rattle.traces.specs.Determined.{AllExact, Determined, Gives}
 use Rattle.traces.specs.Model.{Conform, Meets, due, next, told_as}
 use Rattle.traces.specs.Sequences.{AllMeet}
 use Rattle.traces.specs.Steps.{Steps}
-use Rattle.traces.specs.Stages.{Follows, keeper_of, terms_at, written}
+use Rattle.traces.specs.Stages.{Follows, Place, keeper_of, terms_at, written}
+use Rattle.traces.specs.Traces.{Came, Performed}
 use Rattle.traces.proofs.Exact.{given_at}
-use Rattle.traces.proofs.Progress.{SoFar, all_meet_weaker, so_far_step}
+use Rattle.traces.proofs.Progress.{SoFar, all_meet_weaker, came_more, so_far_step}
 
 module _ {P K : Type 0} (figures : P → Figures) (holds : P → List (Row K) → List Head → List K → List K → Type 0) (need : ℕ → ℕ → Lengths) (alike : K → K → Bool)
     (bracket : P → List (Row K) → List Head → K → ℕ × ℕ) (listing : P → List (Row K) → List Head → ℕ → List (Entry K)) where
@@ -55,16 +56,22 @@ module _ {P K : Type 0} (figures : P → Figures) (holds : P → List (Row K) �
     )
 
     -- how far a trace has come, on these tables and with this list
-    abbrev pub TraceSoFar : List (Row K) → List Head → List (Entry K) → List (Call K) → Stage P → List (Answer (List (Entry K))) → List (Row K) → List Head → List (Entry K) → Type 0
-    TraceSoFar rows heads list = SoFar (next t) (RightAndExact (length list)) (Follows figures holds need t) written t.need blank rows heads list
+    abbrev Told : List (Row K) → List Head → List (Entry K) → List (Call K) → List (Answer (List (Entry K))) → Place P K → Type 0
+    Told rows heads list calls answers p = SoFar (next t) (RightAndExact (length list)) (Follows figures holds need t) written t.need blank rows heads list calls p.stage answers p.rows p.heads p.list
 
-    pub trace_step : {rows rows0 : List (Row K)} {heads heads0 : List Head} {list list0 : List (Entry K)} {calls : List (Call K)} {call : Call K} {s s1 : Stage P} {answers : List (Answer (List (Entry K)))} {answer : Answer ℕ}
-        → TraceSoFar rows heads list calls s answers rows0 heads0 list0
-        → (rows1 : List (Row K)) (heads1 : List Head) (list1 : List (Entry K)) → Steps figures holds need alike bracket listing s rows0 heads0 list0 call s1 answer rows1 heads1 list1 → length list1 ≡ length list0
-        → TraceSoFar rows heads list (calls ++ call ∷ []) s1 (answers ++ told_as (λ count. take count list1) answer ∷ []) rows1 heads1 list1
-    trace_step {rows0} {heads0} h rows1 heads1 list1 e room =
-        let met = step_at e h.stands in
-        let same_need = ap (λ terms. terms.need) h.stands.terms in
-        so_far_step h (rw (sym h.room) met.0) met.1 e.list_after room
-        (subst (λ n. drop n.rows rows1 ≡ drop n.rows rows0) same_need e.rows_rest)
-        (subst (λ n. drop n.heads heads1 ≡ drop n.heads heads0) same_need e.heads_rest)
+    -- and the calls themselves
+    abbrev pub TraceSoFar : List (Row K) → List Head → List (Entry K) → List (Call K) → List (Answer (List (Entry K))) → Place P K → Type 0
+    TraceSoFar rows heads list calls answers p =
+        Told rows heads list calls answers p × Came figures holds (Performed figures holds need alike bracket listing) t.accuracy t.span calls rows heads list answers p
+
+    pub trace_step : {rows : List (Row K)} {heads : List Head} {list : List (Entry K)} {calls : List (Call K)} {answers : List (Answer (List (Entry K)))} {p : Place P K} → TraceSoFar rows heads list calls answers p
+        → (q : Place P K) (call : Call K) (answer : Answer (List (Entry K))) → Performed figures holds need alike bracket listing p call answer q → length q.list ≡ length p.list
+        → TraceSoFar rows heads list (calls ++ call ∷ []) (answers ++ answer ∷ []) q
+    trace_step {p} h q call answer e room =
+        let step = e.1 in
+        let met = step_at step h.0.stands in
+        let same_need = ap (λ terms. terms.need) h.0.stands.terms in
+        (rw e.2 (so_far_step h.0 (rw (sym h.0.room) met.0) met.1 step.list_after room
+        (subst (λ n. drop n.rows q.rows ≡ drop n.rows p.rows) same_need step.rows_rest)
+        (subst (λ n. drop n.heads q.heads ≡ drop n.heads p.heads) same_need step.heads_rest)),
+        came_more figures holds (Performed figures holds need alike bracket listing) h.1 q call answer e)

@@ -30,6 +30,13 @@ abbrev pub written : {K : Type 0} → List (Entry K) → Answer (List (Entry K))
 written list (Listed entries) = over entries list
 written list other = list
 
+-- what a call finds and leaves: the stage, the tables and the list
+pub record Place (P K : Type 0) : Type 0 where
+  pub stage : Stage P
+  pub rows : List (Row K)
+  pub heads : List Head
+  pub list : List (Entry K)
+
 -- the terms of a setting with these tables
 abbrev pub terms_of : {K : Type 0} → (ℕ → ℕ → Lengths) → ℕ → ℕ → List (Row K) → List Head → Terms
 terms_of need a k rows heads = record { accuracy = a; span = k; need = need a k; lent = lengths rows heads }

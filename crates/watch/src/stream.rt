@@ -4,6 +4,7 @@ ghost use Rattle.std.specs.Prelude.{◌≡◌, List, ℕ, [], ◌++◌, Some, On
 ghost use Rattle.std.specs.Io.KnownBytes.{Appends};
 ghost use Rattle.watch.specs.Progress.{Fed};
 ghost use Rattle.watch.specs.Report.{report};
+ghost use Rattle.watch.specs.Stream.{ReadAsNeeded};
 
 use crate::Watch;
 use crate::counter::Counter;
@@ -44,8 +45,9 @@ pub fn run<C: Counter, R: Read, W: Write>(
     output: &mut W,
     heap: Global,
 ) -> io::Result<()>
-    ensures { (bytes before : List ℕ) → R.remaining input.old ≡ Some bytes → W.contents output.old ≡ Some before
+    ensures written { (bytes before : List ℕ) → R.remaining input.old ≡ Some bytes → W.contents output.old ≡ Some before
         → OnOk result (W.contents output.new ≡ Some (before ++ report C.reading C.ending bytes)) }
+    ensures read { (bytes : List ℕ) → R.remaining input.old ≡ Some bytes → OnOk result ((rest : List ℕ) × (R.remaining input.new ≡ Some rest) × ReadAsNeeded bytes rest) }
 {
     let mut piece = vec![in heap; 0u8; PIECE]?;
     let mut out = String::with_capacity(heap, PIECE)?;

@@ -12,7 +12,7 @@ pub loop-call-init : goal.loop-call-init
 loop-call-init g c =
     rw c.new-answers.ensures.items (
       so_far_start (record { state = refl; terms = rw c.fresh.ensures.tells refl; true_to = c.fresh.ensures.blank c.args.rows.now c.args.heads.now }),
-      record { keeper = c.fresh.result; fresh = c.fresh.ensures; performed = refl },
+      record { keeper = c.fresh.result; fresh = c.fresh.ensures; all = refl },
     )
 
 pub loop-call-preserved : goal.loop-call-preserved
