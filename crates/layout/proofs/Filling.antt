@@ -2,6 +2,7 @@
 use Rattle.std.proofs.Common.{◌≡◌, ℕ, zero, suc, ◌+◌, ◌-◌, ◌*◌, ◌/◌, ◌%◌, ◌<◌, ◌≤◌, ◌⊎◌, ⊎_elim, subst, ap, arith, suc-mul, mul-le-mul_right, div-add-mod', mul-zero, add-one, sym, ◌∙◌}
 use Rattle.std.proofs.lemmas.Bool.{cases_order, cases_lt, cases_eq}
 use Rattle.std.proofs.lemmas.Nat.{div_below, mod_below}
+use Rattle.layout.specs.Inside.{Begins}
 use Rattle.layout.specs.Slots.{Shape, slots_at, rows_at, cells_below, rows_below, heads_below, scale_rows, scale_heads}
 use Rattle.layout.proofs.Closed.{rows_of_scale, heads_of_scale}
 
@@ -154,3 +155,13 @@ rows_end top scales some = omega (arith, last_end scales (scale_rows top) (rows_
 
 pub heads_end : (top scales : ℕ) → 1 ≤ scales → (scales - 1) * scale_heads top + heads_below top top + slots_at top top ≡ scales * scale_heads top
 heads_end top scales some = omega (arith, last_end scales (scale_heads top) (heads_below top (suc top)) some (ap (heads_below top) (sym (add-one top)) ∙ heads_of_scale top))
+
+-- behind the last level of a scale the next scale begins
+pub scale_behind : (top i j r h : ℕ) → j ≤ top → top ≤ j → r ≡ i * scale_rows top + rows_below top j + slots_at top j * rows_at top j → h ≡ i * scale_heads top + heads_below top j + slots_at top j → Begins top (i + 1) 0 r h
+scale_behind top i j r h level last row head =
+    let at : j ≡ top = omega arith in
+    let one : i + 1 - 1 ≡ i = omega arith in
+    record {
+      row = omega (arith, row, ap (λ l. rows_below top l + slots_at top l * rows_at top l) at, rows_end top (i + 1) (omega arith), ap (λ n. n * scale_rows top) one);
+      head = omega (arith, head, ap (λ l. heads_below top l + slots_at top l) at, heads_end top (i + 1) (omega arith), ap (λ n. n * scale_heads top) one);
+    }

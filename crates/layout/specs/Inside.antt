@@ -1,7 +1,7 @@
 -- What is always so of the numbers inside a layout, a block and the two walks over blocks. Assumes nothing.
 use Rattle.std.specs.Prelude.{◌≡◌, ℕ, ◌+◌, ◌*◌, ◌%◌, ◌^◌, ◌<◌, ◌≤◌}
 use Rattle.settings.specs.Chosen.{least_accuracy, most_accuracy, most_span}
-use Rattle.layout.specs.Slots.{block_size}
+use Rattle.layout.specs.Slots.{block_size, scale_rows, scale_heads, rows_below, heads_below}
 
 -- a layout: its last level follows from an accuracy, and the last of its scales from a span
 pub record IsShape (top scales : ℕ) : Type 0 where
@@ -17,7 +17,12 @@ pub record IsLevel (t i j : ℕ) : Type 0 where
   pub scale : t + i ≤ most_span
   pub level : j ≤ t
 
--- block b of that level: the number of its first arrival has 32 bits
+-- the slots of that level begin at this row and at this head
+pub record Begins (t i j r h : ℕ) : Type 0 where
+  pub row : i * scale_rows t + rows_below t j ≡ r
+  pub head : i * scale_heads t + heads_below t j ≡ h
+
+-- block b of a level: the number of its first arrival has 32 bits
 pub record IsStretch (t i j b : ℕ) : Type 0 where
   pub there : IsLevel t i j
   pub first : b * block_size i j < 2 ^ 32

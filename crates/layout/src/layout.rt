@@ -21,7 +21,7 @@ use std::marker::Model;
 /// At accuracy a and span K, with L = a + 3, there is a scale for windows of up to 2^L keys, one for those of up to 2^(L + 1), and so on
 /// to 2^K; they are counted from 0. Scale i has levels 0 to L, and a block of level j holds 2^(i + j) arrivals. A level has
 /// 2^(L - j) + 1 slots, which its blocks use in turn, each of 2^j * (L + 1) - 1 rows and one head; they lie by scale, then by level,
-/// then by slot. None of that is kept in a table: each place is worked out anew.
+/// then by slot. None of that is kept in a table: places are worked out.
 #[derive(Clone, Copy, PartialEq, Eq, Debug)]
 pub struct Layout {
     top: u32,
@@ -70,8 +70,7 @@ impl Layout {
         ensures few { result < 2 ^ 21 }
         ensures filled { FillRows self.now result }
     {
-        let last = self.last_level();
-        last.first_row() + last.slots() as usize * last.rows()
+        self.last_level().row_behind()
     }
 
     /// How many heads the slots take: one each.
@@ -81,8 +80,7 @@ impl Layout {
         ensures few { result < 2 ^ 16 }
         ensures filled { FillHeads self.now result }
     {
-        let last = self.last_level();
-        last.first_head() + last.slots() as usize
+        self.last_level().head_behind()
     }
 
     // The last level of the last scale: behind its slots there are none.
@@ -90,11 +88,7 @@ impl Layout {
         ensures value { result ≡ record { top = self.now.top; scale = self.now.scales - 1; number = self.now.top } }
         ensures some { 1 ≤ self.now.scales }
     {
-        Level {
-            top: self.top,
-            scale: self.scales - 1,
-            number: self.top,
-        }
+        Level::of(self.top, self.scales - 1, self.top)
     }
 
     /// The scale that answers for windows of this size: the smallest that is for windows so long, or the last where none is.
@@ -118,6 +112,8 @@ impl Layout {
             arrival,
             scale: 0,
             level: 0,
+            row: 0,
+            head: 0,
         }
     }
 

@@ -1,32 +1,65 @@
-//! A level of a scale, and where its slots lie: by a few operations each.
+//! A level of a scale, and where its slots lie.
 
 ghost use Rattle.std.specs.Prelude.{◌≡◌, ◌+◌, ◌*◌, ◌^◌, ◌<◌, ◌≤◌};
+ghost use Rattle.layout.specs.Inside.{IsLevel};
 ghost use Rattle.layout.specs.Slots.{block_size, heads_below, rows_at, rows_below, scale_heads, scale_rows, slots_at};
 
 use std::marker::Model;
 
-// A level of a scale: `top` is the number of that scale's last level.
+// A level of a scale, with its first row and its first head: `top` is the number of that scale's last level. Both follow from the other
+// numbers. They are kept, since the next level begins just behind: a walk over all levels carries them on by a sum each.
 #[derive(Clone, Copy, PartialEq, Eq, Debug)]
 pub(crate) struct Level {
     pub(crate) top: u32,
     pub(crate) scale: u32,
     pub(crate) number: u32,
+    pub(crate) first_row: usize,
+    pub(crate) first_head: usize,
 }
 
 impl Model for Level {
-    ghost use Rattle.layout.specs.Slots.{Rung};
-    ghost use Rattle.layout.specs.Inside.{IsLevel};
+    ghost use Rattle.std.specs.Prelude.{◌+◌, ◌*◌};
+    ghost use Rattle.layout.specs.Slots.{Rung, scale_rows, scale_heads, rows_below, heads_below};
+    ghost use Rattle.layout.specs.Inside.{IsLevel, Begins};
 
     ghost Value = { Rung };
 
     ghost view = { λ l. record { top = l.top; scale = l.scale; number = l.number } };
 
-    ghost invariant = { λ l. IsLevel l.top l.scale l.number };
+    ghost invariant = { λ l. IsLevel l.top l.scale l.number × Begins l.top l.scale l.number l.first_row l.first_head };
 
-    ghost inverse = { λ r. record { top = r.top; scale = r.scale; number = r.number } };
+    ghost inverse = { λ r. record {
+      top = r.top;
+      scale = r.scale;
+      number = r.number;
+      first_row = r.scale * scale_rows r.top + rows_below r.top r.number;
+      first_head = r.scale * scale_heads r.top + heads_below r.top r.number;
+    } };
+
+    ghost inverse_ok = { λ l is t. record {
+      top = l.top;
+      scale = l.scale;
+      number = l.number;
+      first_row = is.1.row t;
+      first_head = is.1.head t;
+    } };
 }
 
 impl Level {
+    // A level by its numbers.
+    pub(crate) fn of(top: u32, scale: u32, number: u32) -> Level
+        requires { IsLevel top scale number }
+        ensures { result ≡ record { top = top; scale = scale; number = number } }
+    {
+        Level {
+            top,
+            scale,
+            number,
+            first_row: scale as usize * scale_rows(top) + below_rows(top, number),
+            first_head: scale as usize * scale_heads(top) + below_heads(top, number),
+        }
+    }
+
     // How many arrivals its blocks hold, as a power of 2.
     pub(crate) fn exponent(&self) -> u32
         ensures value { result ≡ self.now.scale + self.now.number }
@@ -54,7 +87,7 @@ impl Level {
         ensures value { result ≡ self.now.scale * scale_rows self.now.top + rows_below self.now.top self.now.number }
         ensures small { result + slots_at self.now.top self.now.number * rows_at self.now.top self.now.number < 2 ^ 21 }
     {
-        self.scale as usize * scale_rows(self.top) + below_rows(self.top, self.number)
+        self.first_row
     }
 
     // Its first head.
@@ -62,7 +95,25 @@ impl Level {
         ensures value { result ≡ self.now.scale * scale_heads self.now.top + heads_below self.now.top self.now.number }
         ensures small { result + slots_at self.now.top self.now.number < 2 ^ 16 }
     {
-        self.scale as usize * scale_heads(self.top) + below_heads(self.top, self.number)
+        self.first_head
+    }
+
+    // The row behind its slots.
+    pub(crate) fn row_behind(&self) -> usize
+        ensures value { result ≡ self.now.scale * scale_rows self.now.top + rows_below self.now.top self.now.number
+            + slots_at self.now.top self.now.number * rows_at self.now.top self.now.number }
+        ensures small { result < 2 ^ 21 }
+    {
+        self.first_row() + self.slots() as usize * self.rows()
+    }
+
+    // The head behind them.
+    pub(crate) fn head_behind(&self) -> usize
+        ensures value { result ≡ self.now.scale * scale_heads self.now.top + heads_below self.now.top self.now.number
+            + slots_at self.now.top self.now.number }
+        ensures small { result < 2 ^ 16 }
+    {
+        self.first_head() + self.slots() as usize
     }
 }
 

@@ -4,6 +4,7 @@ use crate::block::Block;
 use crate::level::Level;
 use std::marker::Model;
 
+// `row` and `head` are where the next level's slots begin.
 /// The blocks that an arrival falls into, as far as they are left.
 #[derive(Debug, Drop)]
 pub struct Visits {
@@ -12,18 +13,20 @@ pub struct Visits {
     pub(crate) arrival: u32,
     pub(crate) scale: u32,
     pub(crate) level: u32,
+    pub(crate) row: usize,
+    pub(crate) head: usize,
 }
 
 impl Model for Visits {
     ghost use Rattle.std.specs.Prelude.{List};
     ghost use Rattle.layout.specs.Blocks.{Stretch, visits_left};
-    ghost use Rattle.layout.specs.Inside.{AreLeft};
+    ghost use Rattle.layout.specs.Inside.{AreLeft, Begins};
 
     ghost Value = { List Stretch };
 
     ghost view = { λ v. visits_left v.top v.scales v.arrival v.scale v.level };
 
-    ghost invariant = { λ v. AreLeft v.top v.scales v.scale v.level };
+    ghost invariant = { λ v. AreLeft v.top v.scales v.scale v.level × Begins v.top v.scale v.level v.row v.head };
 }
 
 impl Iterator for Visits {
@@ -43,14 +46,21 @@ impl Iterator for Visits {
             top: self.top,
             scale: self.scale,
             number: self.level,
+            first_row: self.row,
+            first_head: self.head,
         };
-        let number = self.arrival >> level.exponent();
+        let block = Block {
+            level,
+            number: self.arrival >> level.exponent(),
+        };
+        self.row = level.row_behind();
+        self.head = level.head_behind();
         if self.level < self.top {
             self.level += 1;
         } else {
             self.scale += 1;
             self.level = 0;
         }
-        Some(Block { level, number })
+        Some(block)
     }
 }

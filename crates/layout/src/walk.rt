@@ -50,11 +50,7 @@ fn block_at(top: u32, scale: u32, position: u32, end: u32) -> Block
     ensures value { result ≡ block_of top position scale (level_at scale position end top) }
     ensures after { IsWalk top scale (position + size result) end }
 {
-    let level = Level {
-        top,
-        scale,
-        number: level_at(top, scale, position, end),
-    };
+    let level = Level::of(top, scale, level_at(top, scale, position, end));
     Block {
         level,
         number: position >> level.exponent(),

@@ -1,6 +1,6 @@
 //! Keys for readings of the depth.
 
-ghost use Rattle.std.specs.Prelude.{◌≡◌};
+ghost use Rattle.std.specs.Prelude.{◌≡◌, ◌+◌, ◌*◌, ◌<◌, slice_index};
 ghost use Rattle.likeness.specs.Agree.{same_sounder, same_sounding};
 ghost use Rattle.likeness.specs.Laws;
 ghost use Rattle.likeness.specs.Laws.{sounding_part, sounding_decides};
@@ -20,8 +20,17 @@ impl SoundingKey {
     pub fn is_of(&self, sounder: [u8; 2]) -> bool
         ensures { result ≡ same_sounder self.now.sounder sounder }
     {
-        self.sounder == sounder
+        number(self.sounder) == number(sounder)
     }
+}
+
+// A sounder's two bytes as one number, so that two sounders are compared at once.
+fn number(sounder: [u8; 2]) -> u16
+    ensures value { result ≡ slice_index sounder 0 + 256 * slice_index sounder 1 }
+    ensures low { slice_index sounder 0 < 256 }
+{
+    let [low, high] = sounder;
+    u16::from(low) + 256 * u16::from(high)
 }
 
 /// Sounding keys count as one when they are readings of one sounder in one band.
@@ -34,7 +43,8 @@ impl Likeness for SoundingKey {
 
     ghost transitive = { Laws.transitive sounding_part _ sounding_decides };
 
+    // Without a branch, since a loop that counts alike keys can then take several at once.
     fn is_alike(&self, other: &SoundingKey) -> bool {
-        self.is_of(other.sounder) && self.band == other.band
+        self.is_of(other.sounder) & (self.band == other.band)
     }
 }

@@ -23,14 +23,14 @@ module _ (top i p q j : ℕ) (walks : IsWalk top i p q) (before : p < q) (e : j 
     end = walks.end;
   }
 
-pub invariant_of-level : goal.invariant_of-level
-invariant_of-level c = level_there _ _ _ _ c.level_at.result c.requires.0 c.requires.1 c.level_at.ensures
+pub of-level-requires : goal.of-level-requires
+of-level-requires c = level_there _ _ _ _ c.level_at.result c.requires.0 c.requires.1 c.level_at.ensures
 
 pub invariant_of-result : goal.invariant_of-result
-invariant_of-result c = record {
-  there = level_there _ _ _ _ c.level_at.result c.requires.0 c.requires.1 c.level_at.ensures;
-  first = rw c.exponent.ensures.value (omega (arith, div-mul-le_self c.args.position (block_size c.args.scale c.level_at.result)));
-}
+invariant_of-result c =
+    let i = c.args.scale in
+    let there = level_there _ _ _ _ c.level_at.result c.requires.0 c.requires.1 c.level_at.ensures in
+    rw (c.exponent.ensures.value, c.of-level.ensures) (record { there = there; first = omega (arith, div-mul-le_self c.args.position (block_size i c.level_at.result)) })
 
 pub returns-clause-after : goal.returns-clause-after
-returns-clause-after c = walks_on _ _ _ _ c.level_at.result c.requires.0 c.requires.1 c.level_at.ensures
+returns-clause-after c = rw c.of-level.ensures (walks_on _ _ _ _ c.level_at.result c.requires.0 c.requires.1 c.level_at.ensures)

@@ -6,7 +6,7 @@ use Rattle.layout.proofs.SlotsOfBlocks.{rows_filled}
 use Rattle.layout.proofs.layout.Layout.rows.Goals as goal
 
 pub returns-clause-value : goal.returns-clause-value
-returns-clause-value c = let shape = c.args.self.now in rw (c.first_row.ensures.value, c.slots.ensures, c.rows.ensures, c.last_level-last.ensures.value) (rows_end shape.top shape.scales c.last_level-last.ensures.some)
+returns-clause-value c = let shape = c.args.self.now in rw (c.row_behind.ensures.value, c.last_level.ensures.value) (rows_end shape.top shape.scales c.last_level.ensures.some)
 
 pub returns-clause-sum : goal.returns-clause-sum
 returns-clause-sum c = let shape = c.args.self.now in returns-clause-value c ∙ ap (λ n. shape.scales * n) (sym (rows_of_scale shape.top))
