@@ -1,22 +1,63 @@
 -- The entries of a list: one key after another, place by place, and why they are right as the list of a window. Assumes nothing, but for the last part, which takes alike to be symmetric and transitive.
-use Rattle.std.proofs.Common.{◌≡◌, ℕ, suc, ◌+◌, ◌-◌, ◌*◌, ◌^◌, ◌<◌, ◌≤◌, Bool, true, false, cond, not, ◌||◌, leb, List, [], ◌∷◌, ◌++◌, map, length, Some, None, filter, Option, sym, refl, ap, ◌∙◌, subst, mul-le-mul_left, arith, length-append}
+use Rattle.std.proofs.Common.{◌≡◌, ℕ, ◌+◌, ◌-◌, ◌*◌, ◌^◌, ◌<◌, ◌≤◌, Bool, true, false, cond, not, ◌||◌, leb, List, [], ◌∷◌, ◌++◌, map, length, Some, None, filter, Option, sym, refl, ap, ◌∙◌, subst, mul-le-mul_left, arith, length-append, take, slice_index_or, ⊎_elim}
 use Rattle.std.proofs.lemmas.List.Elements.{filter-append, All-nil, All-cons, All-head, All-tail, All-filter, All-map, All-weaker, filter_passes}
-use Rattle.std.proofs.lemmas.List.{append-nil, map-append, length_push, append_assoc}
-use Rattle.std.proofs.lemmas.List.Sums.{sum_by-cons, count_by-le-length}
-use Rattle.std.proofs.lemmas.Bool.{both_ways, cond_both, not-true, or_left, or_right, le-leb, leb-true}
-use Rattle.std.specs.List.{All, cons_option, filter_map, range_with_len, slice_get}
-use Rattle.std.specs.Option.{option_and_then}
-use Rattle.std.proofs.Math.Seq.{take-append_seam}
+use Rattle.std.proofs.lemmas.List.{append-nil, map-append, length_push, append_assoc, flat_map_more, get_or-map, length-map, length-take, take_all, take_more}
+use Rattle.std.proofs.lemmas.List.Folds.{length-flat_map-take, list_any-append}
+use Rattle.std.proofs.lemmas.List.Concat.{flat_map-cons}
+use Rattle.std.proofs.lemmas.List.Sums.{sum_by-cons, count_by-le-length, length-filter}
+use Rattle.std.proofs.lemmas.Bool.{both_ways, cases_lt, cond_both, not-true, or_left, or_right, le-leb, leb-true}
+use Rattle.std.specs.List.{All, list_any}
+use Rattle.std.proofs.Math.Seq.{set_out}
+use Rattle.tally.specs.declared.rows.Row.{Row}
+use Rattle.tally.proofs.Over.{over_more}
 use Rattle.likeness.specs.Counts.{Stands, true_count}
 use Rattle.likeness.proofs.Counting.{true_count_same}
 use Rattle.keeper.specs.declared.entry.Entry.{Entry}
-use Rattle.keeper.specs.Listing.{Apart, among, entries_from, firsts, listed, named_after, named_at, entry_of, bracket_in}
+use Rattle.keeper.specs.Listing.{all_keys, Apart, among, firsts, keys_in, listed, named_after, entry_of, bracket_in, written_over}
+use Rattle.std.proofs.lemmas.Grind.{common_steps}
+use Rattle.std.specs.Prelude.{slice_set}
 use Rattle.keeper.specs.Rules.{Bracket, Lists}
 
--- the element behind `before`
-slice_get_seam : {X : Type 0} (before : List X) (x : X) (rest : List X) → slice_get (before ++ x ∷ rest) (length before) ≡ Some x
-slice_get_seam [] x rest = refl
-slice_get_seam (y ∷ before) x rest = slice_get_seam before x rest
+-- one entry more is written to the place that it has, if it has one
+written_push : {X : Type 0} (es : List X) (e : X) (xs : List X) → slice_set (written_over es xs) (length es) e ≡ written_over (es ++ e ∷ []) xs
+written_push es e xs = ⊎_elim (λ room. grind (arith, common_steps, over_more)) (λ full. grind (arith, common_steps, set_out)) (cases_lt (length es) (length xs))
+
+module _ {K : Type 0} where
+  -- one row more
+  pub keys_next : (earlier : List K) (rows : List (Row K)) (place : ℕ) (row : Row K) → place < length rows → row ≡ slice_index_or rows place row
+      → (earlier ++ keys_in (take place rows)) ++ row.key ∷ [] ≡ earlier ++ keys_in (take (place + 1) rows)
+  keys_next earlier rows place row within here =
+      append_assoc earlier (keys_in (take place rows)) (row.key ∷ [])
+      ∙ ap (λ ks. earlier ++ ks)
+      (sym (map-append (λ r. r.key) (take place rows) (row ∷ [])) ∙ ap keys_in (ap (λ r. take place rows ++ r ∷ []) here ∙ sym (take_more rows place row within)))
+
+  -- pieces that are seen through references
+  module _ {B : Type 0} (now : B → List (Row K)) (pieces : List B) (whole : List (List (Row K))) (same : map now pieces ≡ whole) (number : ℕ) (piece : B) (within : number < length pieces) (here : piece ≡ slice_index_or pieces number piece) where
+    piece_here : slice_index_or whole number (now piece) ≡ now piece
+    piece_here = ap (λ w. slice_index_or w number (now piece)) (sym same) ∙ get_or-map now pieces number piece (now piece) within ∙ ap now (sym here)
+
+    piece_within : number < length whole
+    piece_within = omega (arith, within, ap length same, length-map pieces now)
+
+    -- one piece more
+    pub keys_piece : (place : ℕ) → length (now piece) ≤ place → all_keys (take number whole) ++ keys_in (take place (now piece)) ≡ all_keys (take (number + 1) whole)
+    keys_piece place all =
+        ap (λ rows. all_keys (take number whole) ++ keys_in rows) (take_all place (now piece) all)
+        ∙ flat_map_more keys_in [] (take number whole) (now piece)
+        ∙ ap all_keys (ap (λ rows. take number whole ++ rows ∷ []) (sym piece_here) ∙ sym (take_more whole number (now piece) piece_within))
+
+    -- the keys before a row are fewer than all
+    pub keys_fewer : (place : ℕ) → place < length (now piece) → length (all_keys (take number whole) ++ keys_in (take place (now piece))) < length (all_keys whole)
+    keys_fewer place inside =
+        omega (
+          arith,
+          length-append (all_keys (take number whole)) (keys_in (take place (now piece))),
+          length-map (take place (now piece)) (λ row. row.key),
+          length-take place (now piece),
+          length-map (now piece) (λ row. row.key),
+          ap (λ rows. length (keys_in rows)) piece_here,
+          length-flat_map-take keys_in whole number (now piece) piece_within,
+        )
 
 module _ {K : Type 0} (alike : K → K → Bool) where
   first_more : (test : K → Bool) (x k : K) (ys : List K) (a b : Bool) → test k ≡ not a
@@ -35,9 +76,26 @@ module _ {K : Type 0} (alike : K → K → Bool) where
       ap (λ ys. x ∷ filter (λ other. not (alike x other)) ys) (firsts_push xs k)
       ∙ first_more (λ other. not (alike x other)) x k (firsts alike xs) (alike x k) (among alike xs k) refl
 
+  -- a key among those of rows, and among those of rows in pieces
+  pub among_rows : (rows : List (Row K)) (k : K) → list_any (λ row. alike row.key k) rows ≡ among alike (keys_in rows) k
+  among_rows [] k = refl
+  among_rows (row ∷ rows) k = ap (λ b. alike row.key k || b) (among_rows rows k)
+
+  pub among_pieces : {B : Type 0} (now : B → List (Row K)) (pieces : List B) (k : K) → list_any (λ piece. among alike (keys_in (now piece)) k) pieces ≡ among alike (all_keys (map now pieces)) k
+  among_pieces now [] k = refl
+  among_pieces now (piece ∷ pieces) k =
+      ap (λ b. among alike (keys_in (now piece)) k || b) (among_pieces now pieces k)
+      ∙ sym (ap (λ ks. among alike ks k) (flat_map-cons keys_in (now piece) (map now pieces)) ∙ list_any-append (λ x. alike x k) (keys_in (now piece)) (all_keys (map now pieces)))
+
   pub all_firsts : (P : K → Type 0) (xs : List K) → All P xs → All P (firsts alike xs)
   all_firsts P [] h = All-nil P
   all_firsts P (x ∷ xs) h = All-cons P x _ (All-head P x xs h) (All-filter (λ other. not (alike x other)) P (firsts alike xs) (all_firsts P xs (All-tail P x xs h)))
+
+  few_firsts : (xs : List K) → length (firsts alike xs) ≤ length xs
+  few_firsts [] = omega arith
+  few_firsts (x ∷ xs) =
+      let test : K → Bool = λ other. not (alike x other) in
+      omega (arith, few_firsts xs, length-filter test (firsts alike xs), count_by-le-length test (firsts alike xs))
 
   apart_kept : (test : K → Bool) (xs : List K) → Apart alike xs → Apart alike (filter test xs)
   apart_kept test [] h = tt
@@ -74,10 +132,6 @@ module _ {K : Type 0} (alike : K → K → Bool) where
     extended es None = es
     extended es (Some e) = es ++ e ∷ []
 
-    extended_front : (es : List (Entry K)) (o : Option (Entry K)) (more : List (Entry K)) → es ++ cons_option o more ≡ extended es o ++ more
-    extended_front es None more = refl
-    extended_front es (Some e) more = sym (append_assoc es (e ∷ []) more)
-
     listed_push : (xs : List K) (k : K) → listed alike bracket threshold (xs ++ k ∷ []) ≡ extended (listed alike bracket threshold xs) (named_after alike bracket threshold xs k)
     unfolding entry high
     listed_push xs k = ap (λ ks. map entry (filter high ks)) (firsts_push xs k) ∙ ways (among alike xs k) (high k) refl
@@ -91,36 +145,31 @@ module _ {K : Type 0} (alike : K → K → Bool) where
         ways false false e =
             ap (map entry) (filter-append high (firsts alike xs) (k ∷ []) ∙ ap (λ t. filter high (firsts alike xs) ++ cond t (k ∷ []) []) e ∙ append-nil (filter high (firsts alike xs)))
 
-    -- what the key at a place adds stands before what the others add
-    pub entries_more : (keys : List K) (place : ℕ) → place < length keys
-        → entries_from alike bracket threshold keys place ≡ cons_option (named_at alike bracket threshold keys place) (entries_from alike bracket threshold keys (place + 1))
-    entries_more keys place within =
-        let one : length keys - place ≡ suc (length keys - (place + 1)) = omega arith in
-        ap (λ n. filter_map (named_at alike bracket threshold keys) (range_with_len place n)) one
+    -- the entries of these keys are counted, and stand over the front of a list that was `list` before
+    pub record Written (keys : List K) (count : ℕ) (list written : List (Entry K)) : Type 0 where
+      pub counted : count ≡ length (listed alike bracket threshold keys)
+      pub there : written ≡ written_over (listed alike bracket threshold keys) list
 
-    named_here : (before : List K) (k : K) (rest : List K) → named_at alike bracket threshold (before ++ k ∷ rest) (length before) ≡ named_after alike bracket threshold before k
-    named_here before k rest = λ i. option_and_then (named_after alike bracket threshold (take-append_seam before (k ∷ rest) i)) (slice_get_seam before k rest i)
+    -- one key more, with an entry and without one
+    pub written_entry : (keys : List K) (k : K) (e : Entry K) (count : ℕ) (list written : List (Entry K)) → named_after alike bracket threshold keys k ≡ Some e
+        → Written keys count list written → Written (keys ++ k ∷ []) (count + 1) list (slice_set written count e)
+    written_entry keys k e count list written adds before =
+        let all = listed_push keys k ∙ ap (extended (listed alike bracket threshold keys)) adds in
+        record {
+          counted = omega (arith, before.counted, ap length all, length_push (listed alike bracket threshold keys) e);
+          there = (λ i. slice_set (before.there i) (before.counted i) e) ∙ written_push (listed alike bracket threshold keys) e list ∙ ap (λ es. written_over es list) (sym all);
+        }
 
-    entries_rest : (keys before rest : List K) → before ++ rest ≡ keys → listed alike bracket threshold before ++ entries_from alike bracket threshold keys (length before) ≡ listed alike bracket threshold keys
-    entries_rest keys before [] whole =
-        let same : before ≡ keys = sym (append-nil before) ∙ whole in
-        let none : length keys - length before ≡ 0 = omega (arith, ap length same) in
-        ap (λ n. listed alike bracket threshold before ++ filter_map (named_at alike bracket threshold keys) (range_with_len (length before) n)) none
-        ∙ append-nil _
-        ∙ ap (listed alike bracket threshold) same
-    entries_rest keys before (k ∷ rest) whole =
-        let here : named_at alike bracket threshold keys (length before) ≡ named_after alike bracket threshold before k =
-        ap (λ ks. named_at alike bracket threshold ks (length before)) (sym whole) ∙ named_here before k rest in
-        let long : length before + 1 ≡ length (before ++ k ∷ []) = sym (length_push before k) in
-        let within : length before < length keys = omega (arith, ap length whole, length-append before (k ∷ rest)) in
-        ap (λ es. listed alike bracket threshold before ++ es) (entries_more keys (length before) within ∙ (λ i. cons_option (here i) (entries_from alike bracket threshold keys (long i))))
-        ∙ extended_front (listed alike bracket threshold before) (named_after alike bracket threshold before k) _
-        ∙ ap (λ es. es ++ entries_from alike bracket threshold keys (length (before ++ k ∷ []))) (sym (listed_push before k))
-        ∙ entries_rest keys (before ++ k ∷ []) rest (append_assoc before (k ∷ []) rest ∙ whole)
+    pub written_no_entry : (keys : List K) (k : K) (count : ℕ) (list written : List (Entry K)) → named_after alike bracket threshold keys k ≡ None
+        → Written keys count list written → Written (keys ++ k ∷ []) count list written
+    written_no_entry keys k count list written adds before =
+        let all = listed_push keys k ∙ ap (extended (listed alike bracket threshold keys)) adds in
+        record { counted = before.counted ∙ ap length (sym all); there = before.there ∙ ap (λ es. written_over es list) (sym all) }
 
-    -- all places together give the list
-    pub entries_all : (keys : List K) → entries_from alike bracket threshold keys 0 ≡ listed alike bracket threshold keys
-    entries_all keys = entries_rest keys [] keys refl
+    -- there are no more entries than keys
+    pub few_listed : (keys : List K) → length (listed alike bracket threshold keys) ≤ length keys
+    unfolding entry high
+    few_listed keys = omega (arith, length-map (filter high (firsts alike keys)) entry, length-filter high (firsts alike keys), count_by-le-length high (firsts alike keys), few_firsts keys)
 
     -- each entry has its key's bracket
     pub listed_counts : (xs : List K) → All (λ e. bracket_in e ≡ bracket e.key) (listed alike bracket threshold xs)

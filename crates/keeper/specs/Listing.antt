@@ -1,12 +1,24 @@
 -- The entries of a list, from keys in some order and a bracket for each key. Assumes nothing.
-use Rattle.std.specs.Prelude.{◌≡◌, ℕ, ◌-◌, Bool, false, if◌then◌else◌, not, List, [], ◌∷◌, map, length, Some, None, filter, Option, nat_le, take, All}
-use Rattle.std.specs.Option.{option_and_then}
-use Rattle.std.specs.List.{filter_map, list_any, range_with_len, slice_get}
+use Rattle.std.specs.Prelude.{◌≡◌, ℕ, Bool, false, if◌then◌else◌, not, List, [], ◌∷◌, map, flat_map, length, Some, None, filter, Option, nat_le, take, All}
+use Rattle.std.specs.List.{list_any}
+use Rattle.tally.specs.declared.rows.Row.{Row}
+use Rattle.tally.specs.Slots.{over}
 use Rattle.keeper.specs.declared.entry.Entry.{Entry}
 
 -- the entry of a key with its bracket
 abbrev pub entry_of : {K : Type 0} → K → ℕ × ℕ → Entry K
 entry_of k bracket = record { key = k; floor = bracket.0; ceiling = bracket.1 }
+
+-- the keys in rows, and in rows that lie in pieces
+abbrev pub keys_in : {K : Type 0} → List (Row K) → List K
+keys_in rows = map (λ row. row.key) rows
+
+abbrev pub all_keys : {K : Type 0} → List (List (Row K)) → List K
+all_keys pieces = flat_map keys_in pieces
+
+-- a list with as many of these written over its front as it has places for
+abbrev pub written_over : {X : Type 0} → List X → List X → List X
+written_over entries list = over (take (length list) entries) list
 
 -- the bracket in an entry
 abbrev pub bracket_in : {K : Type 0} → Entry K → ℕ × ℕ
@@ -37,11 +49,3 @@ module _ {K : Type 0} (alike : K → K → Bool) where
       if among before k then None
       else if nat_le threshold (bracket k).1 then Some (entry_of k (bracket k))
       else None
-
-  -- the entry that the key at a place adds
-  abbrev pub named_at : (K → ℕ × ℕ) → ℕ → List K → ℕ → Option (Entry K)
-  named_at bracket threshold keys place = option_and_then (named_after bracket threshold (take place keys)) (slice_get keys place)
-
-  -- the entries that the keys from a place on add
-  abbrev pub entries_from : (K → ℕ × ℕ) → ℕ → List K → ℕ → List (Entry K)
-  entries_from bracket threshold keys place = filter_map (named_at bracket threshold keys) (range_with_len place (length keys - place))

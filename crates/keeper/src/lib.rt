@@ -1,6 +1,9 @@
 //! Keepers: anything that can answer counts and lists for a window whose length changes.
 #![tactic(auto)]
 
+ghost use Rattle.std.specs.Prelude.{◌<◌, ◌^◌, length, map};
+ghost use Rattle.keeper.specs.Listing.{all_keys};
+
 mod admission;
 mod entry;
 mod keeping;
@@ -12,13 +15,13 @@ pub use admission::{admit_drop, admit_list, admit_put, admit_tables};
 pub use entry::Entry;
 pub use keeping::{Keeper, Record};
 pub use lengths::Lengths;
-pub use listing::{Source, list_from};
+pub use listing::{Source, list_from, pieces_hold, rows_hold};
 pub use refusal::Refusal;
 
 #[cfg(test)]
 mod tests {
     use super::*;
-    use likeness::{AddressKey, Likeness};
+    use likeness::AddressKey;
     use std::process::Abort;
     use std::test::Fail;
     use tally::{EMPTY, Row};
@@ -69,49 +72,67 @@ mod tests {
         Ok(())
     }
 
-    // Keys in a row, all with one bracket.
-    struct Keys<'a> {
-        keys: &'a [AddressKey],
-        bracket: (u32, u32),
+    // Rows in two pieces, whose keys all have one bracket.
+    #[derive(Drop)]
+    struct Pieces {
+        pieces: [&'static [Row<AddressKey>]; 2],
+        ghost few: { length (all_keys (map (λ rows. rows.now) pieces)) < 2 ^ 64 },
     }
 
-    impl<'a> Source<AddressKey> for Keys<'a> {
-        ghost keys = { λ s. s.keys.now };
+    impl Source<AddressKey> for Pieces {
+        ghost pieces = { λ s. map (λ rows. rows.now) s.pieces };
 
-        ghost bracket = { λ s key. s.bracket };
+        ghost bracket = { λ s key. (2, 5) };
 
-        fn len(&self) -> usize {
-            self.keys.len()
+        fn pieces(&self) -> &[&[Row<AddressKey>]] {
+            &self.pieces
         }
 
-        fn key(&self, place: usize) -> Option<AddressKey> {
-            self.keys.get(place).copied()
-        }
-
-        fn is_known_before(&self, place: usize, key: &AddressKey) -> bool {
-            self.keys
-                .iter()
-                .take(place)
-                .any(|other| other.is_alike(key))
+        fn is_known_before(
+            &self,
+            number: usize,
+            before: &[Row<AddressKey>],
+            key: &AddressKey,
+        ) -> bool {
+            pieces_hold(&self.pieces, number, key) || rows_hold(before, key)
         }
 
         fn bracket_of(&self, _key: &AddressKey) -> (u32, u32) {
-            self.bracket
+            (2, 5)
         }
     }
 
-    const KEYS: [AddressKey; 5] = [
-        AddressKey { bytes: *b"SDDPT" },
-        AddressKey { bytes: *b"SDDBT" },
-        AddressKey { bytes: *b"IIDPT" },
-        AddressKey { bytes: *b"SDHDT" },
-        AddressKey { bytes: *b"IIDBT" },
+    const OLDER: [Row<AddressKey>; 2] = [
+        Row {
+            key: AddressKey { bytes: *b"SDDPT" },
+            count: 0,
+        },
+        Row {
+            key: AddressKey { bytes: *b"SDDBT" },
+            count: 0,
+        },
     ];
 
-    const SOURCE: Keys<'static> = Keys {
-        keys: &KEYS,
-        bracket: (2, 5),
-    };
+    const NEWER: [Row<AddressKey>; 3] = [
+        Row {
+            key: AddressKey { bytes: *b"IIDPT" },
+            count: 0,
+        },
+        Row {
+            key: AddressKey { bytes: *b"SDHDT" },
+            count: 0,
+        },
+        Row {
+            key: AddressKey { bytes: *b"IIDBT" },
+            count: 0,
+        },
+    ];
+
+    fn source() -> Pieces {
+        Pieces {
+            pieces: [&OLDER, &NEWER],
+        }
+    }
 
     const USED: ([u8; 5], u32, u32) = (*b"--ZDA", 8, 9);
 
@@ -133,7 +154,7 @@ mod tests {
     #[test]
     fn entries_by_first_places(rt: HostRuntime) {
         let mut list = used_list();
-        assert_eq!(rt; list_from(&SOURCE, 5, &mut list), Ok(3));
+        assert_eq!(rt; list_from(&source(), 5, &mut list), Ok(3));
         are_entries(
             &rt,
             &list,
@@ -149,14 +170,14 @@ mod tests {
     #[test]
     fn a_threshold_above_every_ceiling(rt: HostRuntime) {
         let mut list = used_list();
-        assert_eq!(rt; list_from(&SOURCE, 6, &mut list), Ok(0));
+        assert_eq!(rt; list_from(&source(), 6, &mut list), Ok(0));
         are_entries(&rt, &list, &[USED; 4]);
     }
 
     #[test]
     fn a_list_of_just_enough_places(rt: HostRuntime) {
         let mut list = used_list();
-        assert_eq!(rt; list_from(&SOURCE, 3, &mut list[..3]), Ok(3));
+        assert_eq!(rt; list_from(&source(), 3, &mut list[..3]), Ok(3));
         are_entries(&rt, &list[2..], &[(*b"SDHDT", 2, 5), USED]);
     }
 
@@ -164,7 +185,7 @@ mod tests {
     fn a_list_of_a_place_too_few(rt: HostRuntime) {
         let mut list = used_list();
         assert_eq!(rt;
-            list_from(&SOURCE, 3, &mut list[..2]),
+            list_from(&source(), 3, &mut list[..2]),
             Err(Refusal::ShortList)
         );
         are_entries(&rt, &list, &[USED; 4]);

@@ -1,95 +1,121 @@
 //! The entries of a list, from whatever has keys in an order and a bracket for each.
 
-ghost use Rattle.std.specs.Prelude.{◌≡◌, ℕ, ◌≤◌, List, length, take, true, false, is_ok};
-ghost use Rattle.std.specs.List.{slice_get};
-ghost use Rattle.keeper.specs.Listing.{among, entries_from, listed, named_at};
+ghost use Rattle.std.specs.Prelude.{◌≡◌, ℕ, ◌<◌, ◌^◌, ◌++◌, List, length, map, slice_set, take, true, false, is_ok};
+ghost use Rattle.keeper.specs.Listing.{all_keys, among, keys_in, listed, named_after, written_over};
 ghost use Rattle.keeper.specs.Refusals.{room_answer};
+ghost use Rattle.tally.specs.declared.rows.Row.{Row};
 ghost use Rattle.tally.specs.Slots.{over};
 
 use crate::entry::Entry;
 use crate::refusal::Refusal;
 use likeness::Likeness;
+use tally::Row;
 
-/// What a list is made from: keys in an order, and a bracket for each.
+/// What a list is made from: rows in pieces, whose keys are in order, and a bracket for each key.
 pub trait Source<K: Likeness> {
-    // The keys, in their order.
-    ghost keys: { Self → List K };
+    // The rows, piece after piece.
+    ghost pieces: { Self → List (List (Row K)) };
 
     // The bracket of a key.
     ghost bracket: { Self → K → ℕ × ℕ };
 
-    /// How many keys there are.
-    fn len(&self) -> usize
-        ensures { result ≡ length (keys self.now) };
+    /// The pieces, as they lie in a table.
+    fn pieces(&self) -> &[&[Row<K>]]
+        ensures rows { map (λ rows. rows.now) result.now ≡ pieces self.now }
+        ensures few { length (all_keys (pieces self.now)) < 2 ^ 64 };
 
-    /// The key at a place; none behind the last.
-    fn key(&self, place: usize) -> Option<K>
-        ensures { result ≡ slice_get (keys self.now) place };
-
-    /// Whether a key before that place is alike to this one.
-    fn is_known_before(&self, place: usize, key: &K) -> bool
-        ensures { result ≡ among K.alike (take place (keys self.now)) key.now };
+    /// Whether a key is alike to one in the first pieces, or to one in these rows.
+    fn is_known_before(&self, number: usize, before: &[Row<K>], key: &K) -> bool
+        ensures { result ≡ among K.alike (all_keys (take number (pieces self.now)) ++ keys_in before.now) key.now };
 
     /// The bracket of a key.
     fn bracket_of(&self, key: &K) -> (u32, u32)
         ensures { result ≡ bracket self.now key.now };
 }
 
-// The entry for the key at a place, if that is its first place and its ceiling reaches the threshold.
-fn entry_at<K: Likeness, S: Source<K>>(source: &S, place: usize, threshold: u32) -> Option<Entry<K>>
-    ensures { result ≡ named_at K.alike (S.bracket source.now) threshold (S.keys source.now) place }
+/// Whether one of the rows has a key that is alike to this one.
+pub fn rows_hold<K: Likeness>(rows: &[Row<K>], key: &K) -> bool
+    ensures { result ≡ among K.alike (keys_in rows.now) key.now }
 {
-    let key = source.key(place)?;
-    if source.is_known_before(place, &key) {
+    rows.iter().any(|row| row.key.is_alike(key))
+}
+
+/// Whether a row of the first pieces has a key that is alike to this one.
+pub fn pieces_hold<K: Likeness>(pieces: &[&[Row<K>]], number: usize, key: &K) -> bool
+    ensures { result ≡ among K.alike (all_keys (take number (map (λ rows. rows.now) pieces.now))) key.now }
+{
+    pieces.iter().take(number).any(|rows| rows_hold(rows, key))
+}
+
+// The entry for a key behind so many pieces and these rows, if that is its first place and its ceiling reaches the threshold.
+fn entry_of<K: Likeness, S: Source<K>>(
+    source: &S,
+    number: usize,
+    before: &[Row<K>],
+    key: &K,
+    threshold: u32,
+) -> Option<Entry<K>>
+    ensures { result ≡ named_after K.alike (S.bracket source.now) threshold (all_keys (take number (S.pieces source.now)) ++ keys_in before.now) key.now }
+{
+    if source.is_known_before(number, before, key) {
         return None;
     }
-    let (floor, ceiling) = source.bracket_of(&key);
+    let (floor, ceiling) = source.bracket_of(key);
     (threshold <= ceiling).then_some(Entry {
-        key,
+        key: *key,
         floor,
         ceiling,
     })
 }
 
-// How many entries there are. They are counted before any is written, so that a list that is too short stays as it was.
-fn count_entries<K: Likeness, S: Source<K>>(source: &S, threshold: u32) -> usize
-    ensures { result ≡ length (entries_from K.alike (S.bracket source.now) threshold (S.keys source.now) 0) }
+// Writes an entry to its place in a list, if the list is so long.
+fn write_at<K: Copy>(list: &mut [Entry<K>], place: usize, entry: Entry<K>)
+    ensures { list.new ≡ slice_set list.old place entry }
 {
-    (0..source.len())
-        .filter_map(|place| entry_at(source, place, threshold))
-        .count()
+    if place < list.len() {
+        list[place] = entry;
+    }
 }
 
-// Writes the entries over the front of the list. The index is counted by hand: of the chain above with `enumerate` behind it the check
-// could not show that a place is inside the list.
-#[tactic(auto, using(crate::proofs::Listings::entries_more, std::proofs::lemmas::Grind::common_steps))]
-fn write_entries<K: Likeness, S: Source<K>>(source: &S, threshold: u32, list: &mut [Entry<K>])
-    requires { length (entries_from K.alike (S.bracket source.now) threshold (S.keys source.now) 0) ≤ length list.old }
-    ensures { list.new ≡ over (entries_from K.alike (S.bracket source.now) threshold (S.keys source.now) 0) list.old }
+// Counts the entries, and writes over the front of the list those that it has places for.
+fn write_entries<K: Likeness, S: Source<K>>(
+    source: &S,
+    threshold: u32,
+    list: &mut [Entry<K>],
+) -> usize
+    ensures count { result ≡ length (listed K.alike (S.bracket source.now) threshold (all_keys (S.pieces source.now))) }
+    ensures written { list.new ≡ written_over (listed K.alike (S.bracket source.now) threshold (all_keys (S.pieces source.now))) list.old }
 {
-    let mut at = 0;
-    for place in 0..source.len() {
-        if let Some(entry) = entry_at(source, place, threshold) {
-            list[at] = entry;
-            at += 1;
+    let mut named = 0;
+    let pieces = source.pieces();
+    for number in 0..pieces.len() {
+        let rows = pieces[number];
+        for place in 0..rows.len() {
+            let entry = entry_of(source, number, &rows[..place], &rows[place].key, threshold);
+            if let Some(entry) = entry {
+                write_at(list, named, entry);
+                named += 1;
+            }
         }
     }
+    named
 }
 
 /// Writes the entries over the front of the list, and answers how many: one for each key that stands first among those that are
 /// alike, if its ceiling reaches the threshold. Refused where the list is too short for them.
-#[tactic(auto, using(crate::proofs::Listings::entries_all))]
+// The entries are counted before any is written, so that a list that is too short stays as it was.
 pub fn list_from<K: Likeness, S: Source<K>>(
     source: &S,
     threshold: u32,
     list: &mut [Entry<K>],
 ) -> Result<usize, Refusal>
     ensures answer { result ≡ room_answer (length list.old)
-        (length (listed K.alike (S.bracket source.now) threshold (S.keys source.now))) }
-    ensures written { is_ok result ≡ true → list.new ≡ over (listed K.alike (S.bracket source.now) threshold (S.keys source.now)) list.old }
+        (length (listed K.alike (S.bracket source.now) threshold (all_keys (S.pieces source.now)))) }
+    ensures written { is_ok result ≡ true → list.new ≡ over (listed K.alike (S.bracket source.now) threshold (all_keys (S.pieces source.now))) list.old }
     ensures kept { is_ok result ≡ false → list.new ≡ list.old }
 {
-    let named = count_entries(source, threshold);
+    let mut nowhere = [];
+    let named = write_entries(source, threshold, &mut nowhere);
     if list.len() < named {
         return Err(Refusal::ShortList);
     }

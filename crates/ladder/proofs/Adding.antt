@@ -1,6 +1,7 @@
 -- Adding up over blocks, where a sum stops at the highest number of 32 bits. Assumes nothing.
-use Rattle.std.proofs.Common.{◌≡◌, ℕ, ◌+◌, ◌<◌, min, List, ◌∷◌, sum_by, ap, arith}
-use Rattle.std.proofs.lemmas.List.Sums.{sum_by-cons}
+use Rattle.std.proofs.Common.{◌≡◌, ℕ, ◌+◌, ◌<◌, ◌≤◌, min, List, [], ◌∷◌, get_or, length, map, take, sum_by, refl, ap, arith}
+use Rattle.std.proofs.lemmas.List.Sums.{sum_by-append, sum_by-cons}
+use Rattle.std.proofs.lemmas.List.{take_all, take_more}
 use Rattle.layout.specs.Blocks.{Stretch}
 use Rattle.ladder.specs.Sums.{capped}
 
@@ -9,10 +10,29 @@ pub block_added : (f : Stretch → ℕ) (b : Stretch) (rest blocks : List Stretc
     → capped (sum + sum_by f blocks) ≡ whole → capped (next + sum_by f rest) ≡ whole
 block_added f b rest blocks sum added next whole split is more all = omega (arith, ap (sum_by f) split, sum_by-cons f b rest, is, more, all)
 
--- both ends of a bracket, once no block is left
-pub bracket_added : (floor uncounted ceiling counted lost ignored : ℕ) → floor < 4294967296 → capped floor ≡ capped counted → capped uncounted ≡ capped (ignored + lost) → ceiling ≡ min (floor + uncounted) 4294967295
-    → ◌≡◌ {A = ℕ × ℕ} (floor, ceiling) (capped counted, capped (counted + (lost + ignored)))
-bracket_added floor uncounted ceiling counted lost ignored small low gap top =
-    let first : floor ≡ capped counted = omega (arith, low) in
-    let second : ceiling ≡ capped (counted + (lost + ignored)) = omega (arith, low, gap, top) in
+-- a sum over what a list is taken to
+pub sum_of_map : {X Y : Type 0} (f : X → Y) (g : Y → ℕ) (xs : List X) → sum_by (λ x. g (f x)) xs ≡ sum_by g (map f xs)
+sum_of_map f g [] = refl
+sum_of_map f g (x ∷ xs) = omega (arith, sum_by-cons (λ y. g (f y)) x xs, sum_by-cons g (f x) (map f xs), sum_of_map f g xs)
+
+-- one element on, from the front
+pub element_added : {X : Type 0} (f : X → ℕ) (x : X) (xs : List X) (i sum next : ℕ) → i < length xs → x ≡ get_or xs i x → sum ≡ capped (sum_by f (take i xs)) → next ≡ min (sum + f x) 4294967295
+    → next ≡ capped (sum_by f (take (i + 1) xs))
+element_added f x xs i sum next within here so_far is =
+    omega (
+      arith,
+      so_far,
+      is,
+      ap f here,
+      ap (sum_by f) (take_more xs i x within),
+      sum_by-append f (take i xs) (get_or xs i x ∷ []),
+      sum_by-cons f (get_or xs i x) [],
+    )
+
+-- both ends of a bracket, of what pieces count, once all are added
+pub bracket_added : {X : Type 0} (f : X → ℕ) (xs : List X) (i floor ceiling counted uncounted : ℕ) → length xs ≤ i → sum_by f xs ≡ counted → floor ≡ capped (sum_by f (take i xs)) → ceiling ≡ min (floor + uncounted) 4294967295
+    → ◌≡◌ {A = ℕ × ℕ} (floor, ceiling) (capped counted, capped (counted + uncounted))
+bracket_added f xs i floor ceiling counted uncounted all whole low top =
+    let first : floor ≡ capped counted = omega (arith, low, ap (sum_by f) (take_all i xs all), whole) in
+    let second : ceiling ≡ capped (counted + uncounted) = omega (arith, first, top) in
     λ t. (first t, second t)

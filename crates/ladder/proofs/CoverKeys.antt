@@ -1,6 +1,7 @@
 -- The keys in a cover's rows, one after the other, and how many they are. Assumes nothing.
-use Rattle.std.proofs.Common.{◌≡◌, ℕ, ◌*◌, ◌^◌, ◌<◌, ◌≤◌, All, List, [], ◌∷◌, drop, flat_map, length, map, slice_index_or, sym, ap, ◌∙◌, suc-mul, mul-le-mul_right, length-append, arith}
-use Rattle.std.proofs.lemmas.List.{length-map, length-take}
+use Rattle.std.proofs.Common.{◌≡◌, ℕ, suc, ◌+◌, ◌++◌, take, slice_set, ◌*◌, ◌^◌, ◌<◌, ◌≤◌, All, List, [], ◌∷◌, drop, flat_map, length, map, slice_index_or, sym, ap, ◌∙◌, suc-mul, mul-le-mul_right, length-append, arith}
+use Rattle.std.proofs.lemmas.List.{append_assoc, length-map, length-take, map-append}
+use Rattle.std.proofs.Math.Seq.{take-suc-set}
 use Rattle.std.proofs.lemmas.List.Elements.{All-head, All-tail}
 use Rattle.std.proofs.lemmas.List.Concat.{flat_map-cons}
 use Rattle.tally.specs.declared.rows.Row.{Row}
@@ -15,33 +16,32 @@ use Rattle.layout.specs.Slots.{Shape}
 use Rattle.layout.proofs.CoverLaws.{cover_is}
 use Rattle.layout.proofs.SlotsOfBlocks.{rows_filled}
 use Rattle.layout.proofs.SmallNumbers.{shape_small}
-use Rattle.ladder.specs.declared.sketch.Sketch.{Sketch}
-use Rattle.ladder.specs.Sketches.{keys_left}
-use Rattle.ladder.specs.Sums.{keys_in}
+use Rattle.ladder.specs.Sums.{keys_in, rows_in}
+use Rattle.keeper.specs.Listing.{all_keys}
+use Rattle.std.proofs.lemmas.List.Folds.{flat_map-map}
 use Rattle.ladder.specs.Tables.{head_at, rows_of, Tables, tables, tally_at}
 
-module _ {K : Type 0} (s : Sketch K) where
-  -- the next row's key comes first
-  pub left_row : (row : Row K) (rest rows : List (Row K)) (blocks : List Stretch) (whole : List K) → rows ≡ row ∷ rest → keys_left s rows blocks ≡ whole → whole ≡ row.key ∷ keys_left s rest blocks
-  left_row row rest rows blocks whole split left = sym left ∙ ap (λ rs. keys_left s rs blocks) split
+-- the rows in use of a block's slot
+pub live_is : {K : Type 0} (rows : List (Row K)) (heads : List Head) (b : Stretch) (slot live : List (Row K)) (head : Head) → live ≡ (held slot head).rows → slot ≡ rows_of (tables rows heads) b → head ≡ head_at (tables rows heads) b
+    → live ≡ (tally_at (tables rows heads) b).rows
+live_is rows heads b slot live head told there found = told ∙ (λ i. (held (there i) (found i)).rows)
 
-  -- the rows in use of a block's slot
-  pub live_is : (b : Stretch) (slot live : List (Row K)) (head : Head) → live ≡ (held slot head).rows → slot ≡ rows_of (tables s.rows.now s.heads.now) b → head ≡ head_at (tables s.rows.now s.heads.now) b
-      → live ≡ (tally_at (tables s.rows.now s.heads.now) b).rows
-  live_is b slot live head told there found = told ∙ (λ i. (held (there i) (found i)).rows)
+-- one block's rows on
+pub piece_added : {X Y : Type 0} (now : X → Y) (f : Stretch → Y) (pieces : List X) (count : ℕ) (piece : X) (b : Stretch) (rest blocks : List Stretch) (whole : List Y) → count < length pieces → blocks ≡ b ∷ rest → now piece ≡ f b
+    → map now (take count pieces) ++ map f blocks ≡ whole → map now (take (count + 1) (slice_set pieces count piece)) ++ map f rest ≡ whole
+piece_added now f pieces count piece b rest blocks whole within split is all =
+    let next : count + 1 ≡ suc count = omega arith in
+    ap (λ n. map now (take n (slice_set pieces count piece)) ++ map f rest) next
+    ∙ ap (λ ps. map now ps ++ map f rest) (take-suc-set pieces count piece within)
+    ∙ ap (λ ys. ys ++ map f rest) (map-append now (take count pieces) (piece ∷ []))
+    ∙ append_assoc (map now (take count pieces)) (now piece ∷ []) (map f rest)
+    ∙ ap (λ y. map now (take count pieces) ++ y ∷ map f rest) is
+    ∙ ap (λ bs. map now (take count pieces) ++ map f bs) (sym split)
+    ∙ all
 
-  -- the next block's rows come where no row is left
-  pub left_block : (b : Stretch) (rows slot : List (Row K)) (rest blocks : List Stretch) (whole : List K) → rows ≡ [] → blocks ≡ b ∷ rest → slot ≡ (tally_at (tables s.rows.now s.heads.now) b).rows
-      → keys_left s rows blocks ≡ whole → keys_left s slot rest ≡ whole
-  left_block b rows slot rest blocks whole none split found left =
-      ap (λ rs. keys_left s rs rest) found
-      ∙ sym (flat_map-cons (λ c. map (λ row. row.key) (tally_at (tables s.rows.now s.heads.now) c).rows) b rest)
-      ∙ (λ i. keys_left s (sym none i) (sym split i))
-      ∙ left
-
-  -- none is left
-  pub left_none : (rows : List (Row K)) (blocks : List Stretch) → rows ≡ [] → blocks ≡ [] → keys_left s rows blocks ≡ []
-  left_none rows blocks none_here none = λ i. keys_left s (none_here i) (none i)
+-- the keys in the rows of all blocks
+pub keys_of_rows : {K : Type 0} (tally : Stretch → Summary K) (blocks : List Stretch) → all_keys (rows_in tally blocks) ≡ keys_in tally blocks
+keys_of_rows tally blocks = flat_map-map (λ rows. map (λ row. row.key) rows) (λ b. (tally b).rows) blocks
 
 -- no more than so many in each block
 keys_by_block : {K : Type 0} (tally : Stretch → Summary K) (most : ℕ) (bs : List Stretch) → All (λ b. length (tally b).rows ≤ most) bs → length (keys_in tally bs) ≤ length bs * most

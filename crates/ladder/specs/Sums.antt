@@ -2,6 +2,7 @@
 use Rattle.std.specs.Prelude.{ℕ, ◌+◌, min, Bool, List, map, flat_map, sum_by}
 use Rattle.keeper.specs.declared.entry.Entry.{Entry}
 use Rattle.keeper.specs.Listing.{listed}
+use Rattle.tally.specs.declared.rows.Row.{Row}
 use Rattle.tally.specs.Steps.{Summary, count_in}
 use Rattle.layout.specs.Slots.{Shape}
 use Rattle.layout.specs.Blocks.{Stretch}
@@ -12,9 +13,12 @@ abbrev pub capped : ℕ → ℕ
 capped n = min n 4294967295
 
 module _ {K : Type 0} (tally : Stretch → Summary K) where
-  -- what blocks lost, and the keys in their rows, block after block
+  -- what blocks lost, their rows in use, and the keys in these, block after block
   abbrev pub lost : List Stretch → ℕ
   lost blocks = sum_by (λ b. (tally b).lost) blocks
+
+  abbrev pub rows_in : List Stretch → List (List (Row K))
+  rows_in blocks = map (λ b. (tally b).rows) blocks
 
   abbrev pub keys_in : List Stretch → List K
   keys_in blocks = flat_map (λ b. map (λ row. row.key) (tally b).rows) blocks

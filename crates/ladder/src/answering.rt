@@ -1,18 +1,23 @@
 //! What the ladder does at each call. These stand apart from the trait's methods, so that what a keeper owes of its answers
 //! is owed at one return.
 
-ghost use Rattle.std.specs.Prelude.{◌≡◌, ◌^◌, ◌<◌, true, false, length, is_ok, if◌then◌else◌};
+ghost use Rattle.std.specs.Prelude.{◌≡◌, ◌+◌, ◌^◌, ◌<◌, true, false, length, is_ok, if◌then◌else◌};
 ghost use Rattle.keeper.specs.Figures.{grown, shrunk};
 ghost use Rattle.keeper.specs.Refusals.{count_answer, drop_answer, list_answer, put_answer};
 ghost use Rattle.keeper.specs.Tables.{lengths};
 ghost use Rattle.tally.specs.Slots.{over};
 ghost use Rattle.ladder.specs.Ladders.{bracket, listing, need_of, shape_at, stored};
-ghost use Rattle.ladder.specs.Tables.{HasRoom, tables};
+ghost use Rattle.layout.specs.Covers.{cover_of, ignored_of};
+ghost use Rattle.ladder.specs.Sketches.{pieces_seen};
+ghost use Rattle.ladder.specs.Sums.{capped, lost, rows_in};
+ghost use Rattle.ladder.specs.Tables.{HasRoom, tables, tally_at};
 
 use crate::figures::Ladder;
 use crate::putting::visit_all;
 use crate::sketch::Sketch;
-use keeper::{Entry, Lengths, Refusal, admit_drop, admit_list, admit_put, admit_tables, list_from};
+use keeper::{
+    Entry, Lengths, Refusal, Source, admit_drop, admit_list, admit_put, admit_tables, list_from,
+};
 use likeness::Likeness;
 use tally::{Head, Row};
 
@@ -30,21 +35,12 @@ impl Ladder {
     }
 
     // The window, in tables that are long enough.
-    fn sketch<'a, K: Likeness>(&self, rows: &'a [Row<K>], heads: &'a [Head]) -> Sketch<'a, K>
+    fn sketch<'a, K: Likeness>(&self, rows: &'a [Row<K>], heads: &[Head]) -> Sketch<'a, K>
         requires { HasRoom (shape_at self.now) rows.now heads.now }
-        ensures rows { result.rows.now ≡ rows.now }
-        ensures heads { result.heads.now ≡ heads.now }
-        ensures layout { result.layout ≡ shape_at self.now }
-        ensures arrivals { result.arrivals ≡ self.now.puts }
-        ensures size { result.size ≡ self.now.size }
+        ensures pieces { pieces_seen result ≡ rows_in (tally_at (tables rows.now heads.now)) (cover_of (shape_at self.now) self.now.puts self.now.size) }
+        ensures uncounted { result.uncounted ≡ capped (ignored_of (shape_at self.now) self.now.puts self.now.size + lost (tally_at (tables rows.now heads.now)) (cover_of (shape_at self.now) self.now.puts self.now.size)) }
     {
-        Sketch {
-            rows,
-            heads,
-            layout: self.layout,
-            arrivals: self.puts,
-            size: self.size,
-        }
+        Sketch::of(rows, heads, &self.layout, self.puts, self.size)
     }
 
     // A key is counted in each block of its arrival.
@@ -86,7 +82,7 @@ impl Ladder {
             (bracket K.alike self.now rows.now heads.now key.now) }
     {
         admit_tables(self, Lengths::of(rows, heads))?;
-        Ok(self.sketch(rows, heads).bracket(key))
+        Ok(self.sketch(rows, heads).bracket_of(key))
     }
 
     // The answer of a list, and its entries.

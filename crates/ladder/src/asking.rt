@@ -1,18 +1,18 @@
 //! What a window's tallies are asked.
 
-ghost use Rattle.std.specs.Prelude.{◌≡◌, All, get_or};
-ghost use Rattle.layout.specs.Blocks.{slot_of};
+ghost use Rattle.std.specs.Prelude.{◌≡◌, ◌+◌, get_or};
 ghost use Rattle.layout.specs.Covers.{cover_of, ignored_of};
-ghost use Rattle.layout.specs.Laws.{IsBlock};
-ghost use Rattle.ladder.specs.Sketches.{bracket_seen, keys_seen};
-ghost use Rattle.ladder.specs.Tables.{empty_head, head_at, Lies, part, tables};
+ghost use Rattle.layout.specs.Inside.{IsShape};
+ghost use Rattle.layout.specs.Laws.{IsWindow};
+ghost use Rattle.ladder.specs.Sketches.{bracket_seen, pieces_seen};
+ghost use Rattle.ladder.specs.Sums.{capped, lost, rows_in};
+ghost use Rattle.ladder.specs.Tables.{empty_head, HasRoom, Lies, part, tables, tally_at};
 
-use crate::keys::Keys;
-use crate::sketch::Sketch;
-use keeper::Source;
-use layout::{Block, Cover, Place};
+use crate::sketch::{MOST_BLOCKS, Sketch};
+use keeper::{Source, pieces_hold, rows_hold};
+use layout::{Layout, Place};
 use likeness::Likeness;
-use tally::{Head, Row, Slot};
+use tally::{Head, Row, Slot, count_among};
 
 // The slot at a place of the tables. A function of its own, where what is known of the place is a bound of a parameter.
 fn slot_in<'a, K>(rows: &'a [Row<K>], heads: &[Head], place: Place) -> Slot<'a, K>
@@ -27,69 +27,57 @@ fn slot_in<'a, K>(rows: &'a [Row<K>], heads: &[Head], place: Place) -> Slot<'a, 
 }
 
 impl<'a, K: Likeness> Sketch<'a, K> {
-    // The blocks that answer for the window.
-    pub(crate) fn cover(&self) -> Cover
-        ensures blocks { result.blocks ≡ cover_of self.now.layout self.now.arrivals self.now.size }
-        ensures ignored { result.ignored ≡ ignored_of self.now.layout self.now.arrivals self.now.size }
-        ensures there { All (IsBlock self.now.layout) result.blocks }
+    // The newest `size` of so many arrivals, in tables with room for all slots.
+    pub(crate) fn of(
+        rows: &'a [Row<K>],
+        heads: &[Head],
+        layout: &Layout,
+        arrivals: u32,
+        size: u32,
+    ) -> Sketch<'a, K>
+        requires room { HasRoom layout.now rows.now heads.now }
+        requires levels { IsShape layout.now.top layout.now.scales }
+        requires window { IsWindow layout.now arrivals size }
+        ensures pieces { pieces_seen result ≡ rows_in (tally_at (tables rows.now heads.now)) (cover_of layout.now arrivals size) }
+        ensures uncounted { result.uncounted ≡ capped (ignored_of layout.now arrivals size + lost (tally_at (tables rows.now heads.now)) (cover_of layout.now arrivals size)) }
     {
-        self.layout.cover(self.arrivals, self.size)
-    }
-
-    // The slot of a block.
-    pub(crate) fn slot(&self, block: &Block) -> Slot<'a, K>
-        requires { IsBlock self.now.layout block.now }
-        ensures rows { result.rows.now ≡ part (slot_of block.now) self.now.rows.now }
-        ensures head { result.head ≡ head_at (tables self.now.rows.now self.now.heads.now) block.now }
-    {
-        slot_in(self.rows, self.heads, block.place())
-    }
-
-    // The keys in the rows of its blocks, to be gone through.
-    fn keys(&self) -> Keys<'_, 'a, K>
-        ensures { result ≡ keys_seen self.now }
-    {
-        Keys {
-            sketch: self,
-            rows: &[],
-            blocks: self.cover().blocks,
-        }
-    }
-
-    // Floor and ceiling of a key.
-    pub(crate) fn bracket(&self, key: &K) -> (u32, u32)
-        ensures { result ≡ bracket_seen K.alike self.now key.now }
-    {
-        let cover = self.cover();
-        let mut floor: u32 = 0;
+        let cover = layout.cover(arrivals, size);
+        let mut pieces: [&'a [Row<K>]; MOST_BLOCKS] = [&[]; MOST_BLOCKS];
+        let mut count = 0;
         let mut uncounted = cover.ignored;
         for block in cover.blocks {
-            let slot = self.slot(&block);
-            floor = floor.saturating_add(slot.count_of(key));
+            let slot = slot_in(rows, heads, block.place());
+            pieces[count] = slot.live();
+            count += 1;
             uncounted = uncounted.saturating_add(slot.head.lost);
         }
-        (floor, floor.saturating_add(uncounted))
+        Sketch {
+            pieces,
+            count,
+            uncounted,
+        }
     }
 }
 
 impl<'a, K: Likeness> Source<K> for Sketch<'a, K> {
-    ghost keys = { keys_seen };
+    ghost pieces = { pieces_seen };
 
     ghost bracket = { bracket_seen K.Likeness.alike };
 
-    fn len(&self) -> usize {
-        self.keys().count()
+    fn pieces(&self) -> &[&[Row<K>]] {
+        &self.pieces[..self.count]
     }
 
-    fn key(&self, place: usize) -> Option<K> {
-        self.keys().nth(place)
-    }
-
-    fn is_known_before(&self, place: usize, key: &K) -> bool {
-        self.keys().take(place).any(|other| other.is_alike(key))
+    // Earlier pieces come first, since of the keys in one slot no two are alike, as long as nobody but the ladder writes there.
+    fn is_known_before(&self, number: usize, before: &[Row<K>], key: &K) -> bool {
+        pieces_hold(self.pieces(), number, key) || rows_hold(before, key)
     }
 
     fn bracket_of(&self, key: &K) -> (u32, u32) {
-        self.bracket(key)
+        let mut floor: u32 = 0;
+        for rows in self.pieces() {
+            floor = floor.saturating_add(count_among(rows, key));
+        }
+        (floor, floor.saturating_add(self.uncounted))
     }
 }

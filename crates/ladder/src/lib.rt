@@ -5,7 +5,6 @@ mod answering;
 mod asking;
 mod figures;
 mod keeping;
-mod keys;
 mod putting;
 mod sketch;
 

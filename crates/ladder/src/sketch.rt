@@ -1,21 +1,20 @@
 //! A window as the tallies of its blocks have it.
 
-ghost use Rattle.layout.specs.Inside.{IsShape};
-ghost use Rattle.layout.specs.Laws.{IsWindow};
-ghost use Rattle.ladder.specs.Tables.{HasRoom};
+ghost use Rattle.std.specs.Prelude.{◌^◌, ◌<◌, ◌≤◌, length, map, take};
+ghost use Rattle.keeper.specs.Listing.{all_keys};
 
-use layout::Layout;
-use tally::{Head, Row};
+use tally::Row;
 
-// Two tables with room for all slots, read as the newest `size` of so many arrivals.
+// How many blocks a cover has at most, at the highest accuracy.
+pub(crate) const MOST_BLOCKS: usize = 20;
+
+// What the slots of a window's cover hold, worked out once: the rows in use of each, oldest block first, in the first places of an
+// array (no heap); and how many arrivals at most they do not count, since they lost them or the cover ignores them.
 #[derive(Drop)]
 pub(crate) struct Sketch<'a, K> {
-    pub(crate) rows: &'a [Row<K>],
-    pub(crate) heads: &'a [Head],
-    pub(crate) layout: Layout,
-    pub(crate) arrivals: u32,
-    pub(crate) size: u32,
-    ghost room: { HasRoom layout rows.now heads.now },
-    ghost levels: { IsShape layout.top layout.scales },
-    ghost window: { IsWindow layout arrivals size },
+    pub(crate) pieces: [&'a [Row<K>]; MOST_BLOCKS],
+    pub(crate) count: usize,
+    pub(crate) uncounted: u32,
+    ghost within: { count ≤ 20 },
+    ghost few: { length (all_keys (map (λ rows. rows.now) (take count pieces))) < 2 ^ 32 },
 }

@@ -1,5 +1,4 @@
 pub mod Backwards
 pub mod Exact
 pub mod Moves
-pub mod Pieces
 pub mod Rounds

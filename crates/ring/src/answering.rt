@@ -1,8 +1,9 @@
 //! What the ring does at each call. These stand apart from the trait's methods, so that what a keeper owes of its answers
 //! is owed at one return.
 
-ghost use Rattle.std.specs.Prelude.{◌≡◌, ◌%◌, ◌^◌, ◌<◌, ◌≤◌, true, false, length, is_ok, if◌then◌else◌};
+ghost use Rattle.std.specs.Prelude.{◌≡◌, ◌%◌, ◌^◌, ◌<◌, ◌≤◌, true, false, length, map, is_ok, if◌then◌else◌};
 ghost use Rattle.keeper.specs.Figures.{grown, shrunk};
+ghost use Rattle.keeper.specs.Listing.{all_keys};
 ghost use Rattle.keeper.specs.Refusals.{count_answer, drop_answer, list_answer, put_answer};
 ghost use Rattle.keeper.specs.Tables.{lengths};
 ghost use Rattle.tally.specs.Slots.{over};
@@ -36,20 +37,18 @@ impl Ring {
     // The window, in a table that is long enough.
     fn window<'a, K: Likeness>(&self, rows: &'a [Row<K>]) -> Window<'a, K>
         requires { 2 ^ self.now.span ≤ length rows.now }
-        ensures { result ≡ window_of self.now rows.now }
+        ensures { all_keys (map (λ rows. rows.now) result.pieces) ≡ window_of self.now rows.now }
     {
         let end = self.next_row();
         let size = self.size as usize;
         if size <= end {
             return Window {
-                older: &rows[end - size..end],
-                newer: &[],
+                pieces: [&rows[end - size..end], &[]],
             };
         }
         let capacity = self.capacity() as usize;
         Window {
-            older: &rows[capacity - (size - end)..capacity],
-            newer: &rows[..end],
+            pieces: [&rows[capacity - (size - end)..capacity], &rows[..end]],
         }
     }
 

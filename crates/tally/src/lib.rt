@@ -7,7 +7,7 @@ mod steps;
 mod tally;
 
 pub use rows::{EMPTY, Head, Row};
-pub use slot::Slot;
+pub use slot::{Slot, count_among};
 pub use steps::step;
 pub use tally::{Tally, tally_of};
 

@@ -9,6 +9,20 @@ ghost use Rattle.tally.specs.Steps.{place, count_in};
 use crate::rows::{Head, Row};
 use likeness::Likeness;
 
+// The first row that is alike to the key.
+fn first_alike<'a, K: Likeness>(rows: &'a [Row<K>], key: &K) -> Option<&'a Row<K>>
+    ensures { option_copied result ≡ find (λ row. K.alike row.key key.now) rows.now }
+{
+    rows.iter().find(|row| row.key.is_alike(key))
+}
+
+/// What rows in use count of the key: the count of the first that is alike, or 0.
+pub fn count_among<K: Likeness>(rows: &[Row<K>], key: &K) -> u32
+    ensures { result ≡ count_in K.alike rows.now key.now }
+{
+    first_alike(rows, key).map_or(0, |row| row.count)
+}
+
 /// A slot as it lies in a table, with its head. Rows and head may hold anything.
 #[derive(Clone, Copy, Debug)]
 pub struct Slot<'a, K> {
@@ -38,13 +52,6 @@ impl<'a, K: Likeness> Slot<'a, K> {
         &self.rows[..self.in_use()]
     }
 
-    // The first row in use that is alike to the key.
-    fn first_alike(&self, key: &K) -> Option<&'a Row<K>>
-        ensures { option_copied result ≡ find (λ row. K.alike row.key key.now) (held self.now.rows.now self.now.head).rows }
-    {
-        self.live().iter().find(|row| row.key.is_alike(key))
-    }
-
     /// The place of the first row in use that is alike to the key.
     pub fn find(&self, key: &K) -> Option<usize>
         ensures value { result ≡ place K.alike (held self.now.rows.now self.now.head).rows key.now }
@@ -58,6 +65,6 @@ impl<'a, K: Likeness> Slot<'a, K> {
     pub fn count_of(&self, key: &K) -> u32
         ensures { result ≡ count_in K.alike (held self.now.rows.now self.now.head).rows key.now }
     {
-        self.first_alike(key).map_or(0, |row| row.count)
+        count_among(self.live(), key)
     }
 }

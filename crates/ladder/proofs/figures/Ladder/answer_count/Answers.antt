@@ -5,5 +5,5 @@ use Rattle.ladder.proofs.figures.Ladder.answer_count.Goals as goal
 pub returns : goal.returns
 returns g c =
     let seen = c.sketch.ensures in
-    let found = c.bracket.ensures ∙ bracket_is_seen g.K.Likeness.alike c.sketch.result c.args.self.now c.args.rows.now c.args.heads.now seen.rows seen.heads seen.layout seen.arrivals seen.size c.args.key.now in
+    let found = c.bracket_of.ensures ∙ bracket_is_seen g.K.Likeness.alike c.sketch.result c.args.self.now c.args.rows.now c.args.heads.now seen.pieces seen.uncounted c.args.key.now in
     search (rules, found)

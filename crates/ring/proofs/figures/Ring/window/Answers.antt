@@ -1,6 +1,7 @@
-use Rattle.std.proofs.Common.{◌≡◌, ◌-◌, ◌^◌, ◌≤◌, ◌++◌, map, take, drop, refl, ap, subst, ◌∙◌, arith}
+use Rattle.std.proofs.Common.{◌≡◌, ◌-◌, ◌^◌, ◌≤◌, ◌++◌, take, drop, refl, ap, sym, subst, ◌∙◌, arith}
 use Rattle.std.proofs.lemmas.Nat.{pow_pos}
-use Rattle.std.proofs.lemmas.List.{append-nil}
+use Rattle.std.proofs.lemmas.List.{append-nil, map-append}
+use Rattle.keeper.specs.Listing.{keys_in}
 use Rattle.keeper.specs.Figures.{Figures, InRange}
 use Rattle.ring.specs.declared.figures.Ring.TheInside.{Inside}
 use Rattle.ring.specs.Inside.{figures_in}
@@ -17,7 +18,8 @@ returns-then-size-end g c =
     let end = c.next_row-end in
     let fits = range c.self.inside f c.self.view_is c.self.invariant in
     let long : end.result - (end.result - c.self.inside.size) ≡ f.size = omega (arith, fits.2) in
-    ap (map (λ row. row.key)) (append-nil _ ∙ (λ t. take (long t) (drop (end.result - fits.2 t) c.args.rows.now)))
+    append-nil _
+    ∙ (λ t. keys_in (take (long t) (drop (end.result - fits.2 t) c.args.rows.now)))
     ∙ window_once c.args.rows.now f.puts f.size (2 ^ f.span) end.result (pow_pos _) fits.0 fits.1 end.ensures.value (omega (arith, fits.2))
 
 pub returns : goal.returns
@@ -28,5 +30,7 @@ returns g c =
     let fits = range c.self.inside f c.self.view_is c.self.invariant in
     let start : all.result - (c.self.inside.size - end.result) ≡ 2 ^ f.span - (f.size - end.result) = omega (arith, fits.2, all.ensures.value) in
     let long : all.result - (all.result - (c.self.inside.size - end.result)) ≡ f.size - end.result = omega (arith, fits.2, all.ensures.value, fits.1) in
-    ap (map (λ row. row.key)) (λ t. take (long t) (drop (start t) c.args.rows.now) ++ take end.result c.args.rows.now)
+    ap (λ keys. keys_in (take (all.result - (all.result - (c.self.inside.size - end.result))) (drop (all.result - (c.self.inside.size - end.result)) c.args.rows.now)) ++ keys) (append-nil (keys_in (take end.result c.args.rows.now)))
+    ∙ sym (map-append (λ row. row.key) (take (all.result - (all.result - (c.self.inside.size - end.result))) (drop (all.result - (c.self.inside.size - end.result)) c.args.rows.now)) (take end.result c.args.rows.now))
+    ∙ ap keys_in (λ t. take (long t) (drop (start t) c.args.rows.now) ++ take end.result c.args.rows.now)
     ∙ window_twice c.args.rows.now f.puts f.size (2 ^ f.span) end.result (pow_pos _) fits.0 fits.1 end.ensures.value (omega (arith, fits.2))

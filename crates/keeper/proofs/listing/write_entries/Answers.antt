@@ -1,0 +1,47 @@
+use Rattle.std.proofs.Common.{◌≡◌, ◌++◌, ◌∷◌, [], take, ap, sym, subst, ◌∙◌, arith}
+use Rattle.keeper.specs.Listing.{all_keys, keys_in, named_after}
+use Rattle.keeper.proofs.Listings.{few_listed, keys_fewer, keys_next, keys_piece, Written, written_entry, written_no_entry}
+use Rattle.keeper.proofs.listing.write_entries.Goals as goal
+use Rattle.keeper.proofs.listing.write_entries.Goals.{in-Some, in_default}
+
+pub overflow_add-named : goal.overflow_add-named
+overflow_add-named g c =
+    let pieces = g.S.Source.pieces c.args.source.now in
+    let seen = c.pieces-pieces in
+    let keys = all_keys (take c.loop-number.number pieces) ++ keys_in (take c.loop-place.place c.index-pieces-number.result.now) in
+    omega (
+      arith,
+      c.loop-place.invariant.counted,
+      few_listed g.K.Likeness.alike (g.S.Source.bracket c.args.source.now) c.args.threshold keys,
+      keys_fewer (λ rows. rows.now) seen.result.now pieces seen.ensures.rows c.loop-number.number c.index-pieces-number.result c.loop-number-test.true c.index-pieces-number.is c.loop-place.place c.loop-place-test.true,
+      seen.ensures.few,
+    )
+
+pub loop-place-preserved : goal.loop-place-preserved
+loop-place-preserved g c =
+    let alike = g.K.Likeness.alike in
+    let bracket = g.S.Source.bracket c.args.source.now in
+    let threshold = c.args.threshold in
+    let list = c.args.list.now in
+    let rows = c.index-pieces-number.result.now in
+    let earlier = all_keys (take c.loop-number.number (g.S.Source.pieces c.args.source.now)) in
+    let keys = earlier ++ keys_in (take c.loop-place.place rows) in
+    let row = c.index-rows-place.result in
+    let found : named_after alike bracket threshold keys row.key ≡ c.entry_of-entry.result =
+    ap (λ r. named_after alike bracket threshold keys r.key) c.index-rows-place.is ∙ sym c.entry_of-entry.ensures in
+    let next : Written alike bracket threshold (keys ++ row.key ∷ []) c.match-entry.named list c.match-entry.list =
+    elim c.match-entry.branch [
+      | in-Some w ↦
+          rw (w.named-is, w.list-is, w.write_at.ensures) (written_entry alike bracket threshold keys row.key w.in-Some.entry c.loop-place.named list c.loop-place.list (found ∙ w.in-Some.is) c.loop-place.invariant)
+      | in_default w ↦
+          rw (w.named-is, w.list-is) (written_no_entry alike bracket threshold keys row.key c.loop-place.named list c.loop-place.list (found ∙ w.in_default.is) c.loop-place.invariant)
+    ] in
+    subst (λ ks. Written alike bracket threshold ks c.match-entry.named list c.match-entry.list) (keys_next earlier rows c.loop-place.place row c.loop-place-test.true c.index-rows-place.is) next
+
+pub loop-number-preserved : goal.loop-number-preserved
+loop-number-preserved g c =
+    let pieces = g.S.Source.pieces c.args.source.now in
+    let seen = c.pieces-pieces in
+    subst (λ ks. Written g.K.Likeness.alike (g.S.Source.bracket c.args.source.now) c.args.threshold ks c.loop-place.named c.args.list.now c.loop-place.list)
+    (keys_piece (λ rows. rows.now) seen.result.now pieces seen.ensures.rows c.loop-number.number c.index-pieces-number.result c.loop-number-test.true c.index-pieces-number.is c.loop-place.place c.loop-place-test.false)
+    c.loop-place.invariant
