@@ -70,8 +70,9 @@ module _ {P K : Type 0} (figures : P → Figures) (holds : P → List (Row K) �
     trace_step {p} h q call answer e room =
         let step = e.1 in
         let met = step_at step h.0.stands in
-        let same_need = ap (λ terms. terms.need) h.0.stands.terms in
-        (rw e.2 (so_far_step h.0 (rw (sym h.0.room) met.0) met.1 step.list_after room
-        (subst (λ n. drop n.rows q.rows ≡ drop n.rows p.rows) same_need step.rows_rest)
-        (subst (λ n. drop n.heads q.heads ≡ drop n.heads p.heads) same_need step.heads_rest)),
-        came_more figures holds (Performed figures holds need alike bracket listing) h.1 q call answer e)
+        let same_need = ap (λ terms. terms.need) h.0.stands.terms in (
+          rw e.2 (so_far_step h.0 (rw (sym h.0.room) met.0) met.1 step.list_after room
+              (subst (λ n. drop n.rows q.rows ≡ drop n.rows p.rows) same_need step.rows_rest)
+              (subst (λ n. drop n.heads q.heads ≡ drop n.heads p.heads) same_need step.heads_rest)),
+          came_more figures holds (Performed figures holds need alike bracket listing) h.1 q call answer e,
+        )
