@@ -14,7 +14,7 @@ const USAGE: &str = "usage: measure FOLDER OUT_FOLDER";
 
 const LINES: &str = "## Lines per second\n\nA million lines from a file, output to nowhere; the best of 7 runs each, in turn.\n\n";
 
-const CALLS: &str = "## Nanoseconds per call\n\nSounding keys, through `replay`. Each cell is `other / twin (other/twin)`; \
+const CALLS: &str = "## Nanoseconds per call\n\nSounding keys, through `replay`. Each cell is `proved / twin (proved/twin)`; \
     the best of up to 5 samples, in turn. A window has 2^K - 1 keys, or 65,535 where filling more takes too long. *put, \
     filling* is a put of a window that is filled and emptied again and again, with the drop of its key, or the only \
     filling where that is long; *put, sliding* is a put and a drop; *count* draws its key among those that come; *list* is at the \

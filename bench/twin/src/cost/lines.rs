@@ -60,9 +60,9 @@ pub fn measure(folders: &Folders) -> io::Result<String> {
     let titles = [
         "program",
         "lines",
-        "other: lines/s",
+        "proved: lines/s",
         "twin: lines/s",
-        "times, other/twin",
+        "times, proved/twin",
     ];
     Ok(table(&titles, &rows))
 }

@@ -100,7 +100,7 @@ fn both<'a>(
             .collect(),
     };
     [
-        curve("other", false, |each| each.other),
+        curve("proved", false, |each| each.other),
         curve("twin", true, |each| each.twin),
     ]
 }
