@@ -1,7 +1,7 @@
 -- The entries of a list: one key after another, place by place, and why they are right as the list of a window. Assumes nothing, but for the last part, which takes alike to be symmetric and transitive.
-use Rattle.std.proofs.Common.{◌≡◌, ℕ, ◌+◌, ◌-◌, ◌*◌, ◌^◌, ◌<◌, ◌≤◌, Bool, true, false, cond, not, ◌||◌, leb, List, [], ◌∷◌, ◌++◌, map, length, Some, None, filter, Option, sym, refl, ap, ◌∙◌, subst, mul-le-mul_left, arith, length-append, take, slice_index_or, ⊎_elim}
+use Rattle.std.proofs.Common.{◌≡◌, ℕ, ◌+◌, ◌-◌, ◌*◌, ◌^◌, ◌<◌, ◌≤◌, Bool, true, false, cond, not, ◌||◌, leb, List, [], ◌∷◌, ◌++◌, map, length, Some, None, filter, Option, sym, refl, ap, ◌∙◌, subst, mul-le-mul_left, arith, length-append, take, drop, slice_index_or, ⊎_elim}
 use Rattle.std.proofs.lemmas.List.Elements.{filter-append, All-nil, All-cons, All-head, All-tail, All-filter, All-map, All-weaker, filter_passes}
-use Rattle.std.proofs.lemmas.List.{append-nil, map-append, length_push, append_assoc, flat_map_more, get_or-map, length-map, length-take, take_all, take_more}
+use Rattle.std.proofs.lemmas.List.{append-nil, map-append, length_push, append_assoc, flat_map_more, get_or-map, length-map, length-take, take_all, take_more, take-append-drop, take_rest}
 use Rattle.std.proofs.lemmas.List.Folds.{length-flat_map-take, list_any-append}
 use Rattle.std.proofs.lemmas.List.Concat.{flat_map-cons}
 use Rattle.std.proofs.lemmas.List.Sums.{sum_by-cons, count_by-le-length, length-filter}
@@ -13,7 +13,7 @@ use Rattle.tally.proofs.Over.{over_more}
 use Rattle.likeness.specs.Counts.{Stands, true_count}
 use Rattle.likeness.proofs.Counting.{true_count_same}
 use Rattle.keeper.specs.declared.entry.Entry.{Entry}
-use Rattle.keeper.specs.Listing.{all_keys, Apart, among, firsts, keys_in, listed, named_after, entry_of, bracket_in, written_over}
+use Rattle.keeper.specs.Listing.{all_keys, Apart, among, firsts, keys_in, listed, named_after, entry_of, bracket_in, written_over, IsPiece}
 use Rattle.std.proofs.lemmas.Grind.{common_steps}
 use Rattle.std.specs.Prelude.{slice_set}
 use Rattle.keeper.specs.Rules.{Bracket, Lists}
@@ -36,15 +36,23 @@ module _ {K : Type 0} where
     piece_here : slice_index_or whole number (now piece) ≡ now piece
     piece_here = ap (λ w. slice_index_or w number (now piece)) (sym same) ∙ get_or-map now pieces number piece (now piece) within ∙ ap now (sym here)
 
-    piece_within : number < length whole
-    piece_within = omega (arith, within, ap length same, length-map pieces now)
+    here_within : number < length whole
+    here_within = omega (arith, within, ap length same, length-map pieces now)
 
     -- one piece more
     pub keys_piece : (place : ℕ) → length (now piece) ≤ place → all_keys (take number whole) ++ keys_in (take place (now piece)) ≡ all_keys (take (number + 1) whole)
     keys_piece place all =
         ap (λ rows. all_keys (take number whole) ++ keys_in rows) (take_all place (now piece) all)
         ∙ flat_map_more keys_in [] (take number whole) (now piece)
-        ∙ ap all_keys (ap (λ rows. take number whole ++ rows ∷ []) (sym piece_here) ∙ sym (take_more whole number (now piece) piece_within))
+        ∙ ap all_keys (ap (λ rows. take number whole ++ rows ∷ []) (sym piece_here) ∙ sym (take_more whole number (now piece) here_within))
+
+    -- it is the piece of its number, wherever it is cut in two
+    pub is_piece : (place : ℕ) → IsPiece whole number (take place (now piece) ++ take (length (now piece) - place) (drop place (now piece)))
+    is_piece place =
+        sym (take-append-drop (number + 1) whole)
+        ∙ ap (λ ps. ps ++ drop (number + 1) whole) (take_more whole number (now piece) here_within)
+        ∙ append_assoc (take number whole) (slice_index_or whole number (now piece) ∷ []) (drop (number + 1) whole)
+        ∙ ap (λ rows. take number whole ++ rows ∷ drop (number + 1) whole) (piece_here ∙ sym (ap (λ rows. take place (now piece) ++ rows) (take_rest (now piece) place) ∙ take-append-drop place (now piece)))
 
     -- the keys before a row are fewer than all
     pub keys_fewer : (place : ℕ) → place < length (now piece) → length (all_keys (take number whole) ++ keys_in (take place (now piece))) < length (all_keys whole)
@@ -56,7 +64,7 @@ module _ {K : Type 0} where
           length-take place (now piece),
           length-map (now piece) (λ row. row.key),
           ap (λ rows. length (keys_in rows)) piece_here,
-          length-flat_map-take keys_in whole number (now piece) piece_within,
+          length-flat_map-take keys_in whole number (now piece) here_within,
         )
 
 module _ {K : Type 0} (alike : K → K → Bool) where

@@ -1,5 +1,5 @@
 -- The entries of a list, from keys in some order and a bracket for each key. Assumes nothing.
-use Rattle.std.specs.Prelude.{◌≡◌, ℕ, Bool, false, if◌then◌else◌, not, List, [], ◌∷◌, map, flat_map, length, Some, None, filter, Option, nat_le, take, All}
+use Rattle.std.specs.Prelude.{◌≡◌, ℕ, ◌+◌, Bool, false, if◌then◌else◌, not, List, [], ◌∷◌, ◌++◌, map, flat_map, length, Some, None, filter, Option, nat_le, take, drop, All}
 use Rattle.std.specs.List.{list_any}
 use Rattle.tally.specs.declared.rows.Row.{Row}
 use Rattle.tally.specs.Slots.{over}
@@ -15,6 +15,10 @@ keys_in rows = map (λ row. row.key) rows
 
 abbrev pub all_keys : {K : Type 0} → List (List (Row K)) → List K
 all_keys pieces = flat_map keys_in pieces
+
+-- whether rows are the piece of this number
+abbrev pub IsPiece : {K : Type 0} → List (List (Row K)) → ℕ → List (Row K) → Type 0
+IsPiece pieces number rows = pieces ≡ take number pieces ++ rows ∷ drop (number + 1) pieces
 
 -- a list with as many of these written over its front as it has places for
 abbrev pub written_over : {X : Type 0} → List X → List X → List X
@@ -33,6 +37,12 @@ module _ {K : Type 0} (alike : K → K → Bool) where
   -- whether some key of a list is alike to k
   abbrev pub among : List K → K → Bool
   among keys k = list_any (λ x. alike x k) keys
+
+  -- rows end the piece of this number, and no key of the earlier pieces and of the rows before is alike to k
+  pub record IsFirstFrom (pieces : List (List (Row K))) (number : ℕ) (rows : List (Row K)) (k : K) : Type 0 where
+    pub before : List (Row K)
+    pub piece : IsPiece pieces number (before ++ rows)
+    pub first : among (all_keys (take number pieces) ++ keys_in before) k ≡ false
 
   -- the keys of a list by their first places: a key is passed over where one before it is alike
   abbrev pub firsts : List K → List K

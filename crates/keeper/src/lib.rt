@@ -97,7 +97,12 @@ mod tests {
             pieces_hold(&self.pieces, number, key) || rows_hold(before, key)
         }
 
-        fn bracket_of(&self, _key: &AddressKey) -> (u32, u32) {
+        fn bracket_from(
+            &self,
+            _number: usize,
+            _rows: &[Row<AddressKey>],
+            _key: &AddressKey,
+        ) -> (u32, u32) {
             (2, 5)
         }
     }

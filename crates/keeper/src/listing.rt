@@ -1,7 +1,7 @@
 //! The entries of a list, from whatever has keys in an order and a bracket for each.
 
 ghost use Rattle.std.specs.Prelude.{◌≡◌, ℕ, ◌<◌, ◌^◌, ◌++◌, List, length, map, slice_set, take, true, false, is_ok};
-ghost use Rattle.keeper.specs.Listing.{all_keys, among, keys_in, listed, named_after, written_over};
+ghost use Rattle.keeper.specs.Listing.{all_keys, among, IsFirstFrom, IsPiece, keys_in, listed, named_after, written_over};
 ghost use Rattle.keeper.specs.Refusals.{room_answer};
 ghost use Rattle.tally.specs.declared.rows.Row.{Row};
 ghost use Rattle.tally.specs.Slots.{over};
@@ -28,9 +28,10 @@ pub trait Source<K: Likeness> {
     fn is_known_before(&self, number: usize, before: &[Row<K>], key: &K) -> bool
         ensures { result ≡ among K.alike (all_keys (take number (pieces self.now)) ++ keys_in before.now) key.now };
 
-    /// The bracket of a key.
-    fn bracket_of(&self, key: &K) -> (u32, u32)
-        ensures { result ≡ bracket self.now key.now };
+    /// The bracket of a key to which no key of the first pieces is alike, and none before these rows in the piece of that number. So it
+    /// is enough to look on from there.
+    fn bracket_from(&self, number: usize, rows: &[Row<K>], key: &K) -> (u32, u32)
+        ensures { IsFirstFrom K.alike (pieces self.now) number rows.now key.now → result ≡ bracket self.now key.now };
 }
 
 /// Whether one of the rows has a key that is alike to this one.
@@ -47,20 +48,23 @@ pub fn pieces_hold<K: Likeness>(pieces: &[&[Row<K>]], number: usize, key: &K) ->
     pieces.iter().take(number).any(|rows| rows_hold(rows, key))
 }
 
-// The entry for a key behind so many pieces and these rows, if that is its first place and its ceiling reaches the threshold.
+// The entry for a key of the piece of this number, which lies between `before` and `rows` there, if that is its first place and its
+// ceiling reaches the threshold.
 fn entry_of<K: Likeness, S: Source<K>>(
     source: &S,
     number: usize,
     before: &[Row<K>],
+    rows: &[Row<K>],
     key: &K,
     threshold: u32,
 ) -> Option<Entry<K>>
+    requires { IsPiece (S.pieces source.now) number (before.now ++ rows.now) }
     ensures { result ≡ named_after K.alike (S.bracket source.now) threshold (all_keys (take number (S.pieces source.now)) ++ keys_in before.now) key.now }
 {
     if source.is_known_before(number, before, key) {
         return None;
     }
-    let (floor, ceiling) = source.bracket_of(key);
+    let (floor, ceiling) = source.bracket_from(number, rows, key);
     (threshold <= ceiling).then_some(Entry {
         key: *key,
         floor,
@@ -91,7 +95,8 @@ fn write_entries<K: Likeness, S: Source<K>>(
     for number in 0..pieces.len() {
         let rows = pieces[number];
         for place in 0..rows.len() {
-            let entry = entry_of(source, number, &rows[..place], &rows[place].key, threshold);
+            let (before, behind) = (&rows[..place], &rows[place..]);
+            let entry = entry_of(source, number, before, behind, &rows[place].key, threshold);
             if let Some(entry) = entry {
                 write_at(list, named, entry);
                 named += 1;
@@ -119,6 +124,8 @@ pub fn list_from<K: Likeness, S: Source<K>>(
     if list.len() < named {
         return Err(Refusal::ShortList);
     }
-    write_entries(source, threshold, list);
+    if named > 0 {
+        write_entries(source, threshold, list);
+    }
     Ok(named)
 }

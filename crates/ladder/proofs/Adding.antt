@@ -1,7 +1,7 @@
 -- Adding up over blocks, where a sum stops at the highest number of 32 bits. Assumes nothing.
-use Rattle.std.proofs.Common.{◌≡◌, ℕ, ◌+◌, ◌<◌, ◌≤◌, min, List, [], ◌∷◌, get_or, length, map, take, sum_by, refl, ap, arith}
+use Rattle.std.proofs.Common.{◌≡◌, ℕ, ◌+◌, ◌<◌, min, List, [], ◌∷◌, get_or, length, map, take, sum_by, refl, ap, arith}
 use Rattle.std.proofs.lemmas.List.Sums.{sum_by-append, sum_by-cons}
-use Rattle.std.proofs.lemmas.List.{take_all, take_more}
+use Rattle.std.proofs.lemmas.List.{take_more}
 use Rattle.layout.specs.Blocks.{Stretch}
 use Rattle.ladder.specs.Sums.{capped}
 
@@ -16,9 +16,9 @@ sum_of_map f g [] = refl
 sum_of_map f g (x ∷ xs) = omega (arith, sum_by-cons (λ y. g (f y)) x xs, sum_by-cons g (f x) (map f xs), sum_of_map f g xs)
 
 -- one element on, from the front
-pub element_added : {X : Type 0} (f : X → ℕ) (x : X) (xs : List X) (i sum next : ℕ) → i < length xs → x ≡ get_or xs i x → sum ≡ capped (sum_by f (take i xs)) → next ≡ min (sum + f x) 4294967295
-    → next ≡ capped (sum_by f (take (i + 1) xs))
-element_added f x xs i sum next within here so_far is =
+pub element_added : {X : Type 0} (f : X → ℕ) (first : ℕ) (x : X) (xs : List X) (i sum next : ℕ) → i < length xs → x ≡ get_or xs i x → sum ≡ capped (first + sum_by f (take i xs)) → next ≡ min (sum + f x) 4294967295
+    → next ≡ capped (first + sum_by f (take (i + 1) xs))
+element_added f first x xs i sum next within here so_far is =
     omega (
       arith,
       so_far,
@@ -29,10 +29,9 @@ element_added f x xs i sum next within here so_far is =
       sum_by-cons f (get_or xs i x) [],
     )
 
--- both ends of a bracket, of what pieces count, once all are added
-pub bracket_added : {X : Type 0} (f : X → ℕ) (xs : List X) (i floor ceiling counted uncounted : ℕ) → length xs ≤ i → sum_by f xs ≡ counted → floor ≡ capped (sum_by f (take i xs)) → ceiling ≡ min (floor + uncounted) 4294967295
-    → ◌≡◌ {A = ℕ × ℕ} (floor, ceiling) (capped counted, capped (counted + uncounted))
-bracket_added f xs i floor ceiling counted uncounted all whole low top =
-    let first : floor ≡ capped counted = omega (arith, low, ap (sum_by f) (take_all i xs all), whole) in
-    let second : ceiling ≡ capped (counted + uncounted) = omega (arith, first, top) in
+-- both ends of a bracket, once all is counted and what is not counted is known
+pub bracket_added : (floor uncounted ceiling counted lost : ℕ) → floor ≡ capped counted → capped uncounted ≡ capped lost → ceiling ≡ min (floor + uncounted) 4294967295
+    → ◌≡◌ {A = ℕ × ℕ} (floor, ceiling) (capped counted, capped (counted + lost))
+bracket_added floor uncounted ceiling counted lost first gap top =
+    let second : ceiling ≡ capped (counted + lost) = omega (arith, first, gap, top) in
     λ t. (first t, second t)

@@ -1,4 +1,5 @@
 pub mod Adding
+pub mod Behind
 pub mod CoverKeys
 pub mod Covering
 pub mod Held

@@ -12,6 +12,7 @@ ghost use Rattle.ladder.specs.Sketches.{pieces_seen};
 ghost use Rattle.ladder.specs.Sums.{capped, lost, rows_in};
 ghost use Rattle.ladder.specs.Tables.{HasRoom, tables, tally_at};
 
+use crate::counting::bracket_of;
 use crate::figures::Ladder;
 use crate::putting::visit_all;
 use crate::sketch::Sketch;
@@ -41,6 +42,14 @@ impl Ladder {
         ensures uncounted { result.uncounted ≡ capped (ignored_of (shape_at self.now) self.now.puts self.now.size + lost (tally_at (tables rows.now heads.now)) (cover_of (shape_at self.now) self.now.puts self.now.size)) }
     {
         Sketch::of(rows, heads, &self.layout, self.puts, self.size)
+    }
+
+    // The bracket of a key, in tables that are long enough.
+    fn bracket_in<K: Likeness>(&self, rows: &[Row<K>], heads: &[Head], key: &K) -> (u32, u32)
+        requires { HasRoom (shape_at self.now) rows.now heads.now }
+        ensures { result ≡ bracket K.alike self.now rows.now heads.now key.now }
+    {
+        bracket_of(rows, heads, &self.layout, self.puts, self.size, key)
     }
 
     // A key is counted in each block of its arrival.
@@ -82,7 +91,7 @@ impl Ladder {
             (bracket K.alike self.now rows.now heads.now key.now) }
     {
         admit_tables(self, Lengths::of(rows, heads))?;
-        Ok(self.sketch(rows, heads).bracket_of(key))
+        Ok(self.bracket_in(rows, heads, key))
     }
 
     // The answer of a list, and its entries.

@@ -1,4 +1,4 @@
-//! What a window's tallies are asked.
+//! What a list is made from: the tallies of a window.
 
 ghost use Rattle.std.specs.Prelude.{◌≡◌, ◌+◌, get_or};
 ghost use Rattle.layout.specs.Covers.{cover_of, ignored_of};
@@ -15,7 +15,7 @@ use likeness::Likeness;
 use tally::{Head, Row, Slot, count_among};
 
 // The slot at a place of the tables. A function of its own, where what is known of the place is a bound of a parameter.
-fn slot_in<'a, K>(rows: &'a [Row<K>], heads: &[Head], place: Place) -> Slot<'a, K>
+pub(crate) fn slot_in<'a, K>(rows: &'a [Row<K>], heads: &[Head], place: Place) -> Slot<'a, K>
     requires { Lies place rows.now heads.now }
     ensures rows { result.rows.now ≡ part place rows.now }
     ensures head { result.head ≡ get_or heads.now place.head empty_head }
@@ -73,10 +73,13 @@ impl<'a, K: Likeness> Source<K> for Sketch<'a, K> {
         pieces_hold(self.pieces(), number, key) || rows_hold(before, key)
     }
 
-    fn bracket_of(&self, key: &K) -> (u32, u32) {
-        let mut floor: u32 = 0;
-        for rows in self.pieces() {
-            floor = floor.saturating_add(count_among(rows, key));
+    // Nothing before these rows counts the key, since none is alike there.
+    fn bracket_from(&self, number: usize, rows: &[Row<K>], key: &K) -> (u32, u32) {
+        let pieces = self.pieces();
+        let next = pieces.len().min(number.saturating_add(1));
+        let mut floor = count_among(rows, key);
+        for later in &pieces[next..] {
+            floor = floor.saturating_add(count_among(later, key));
         }
         (floor, floor.saturating_add(self.uncounted))
     }

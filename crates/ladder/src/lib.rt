@@ -3,6 +3,7 @@
 
 mod answering;
 mod asking;
+mod counting;
 mod figures;
 mod keeping;
 mod putting;

@@ -36,6 +36,16 @@ fn count_alike<K: Likeness>(rows: &[Row<K>], key: &K) -> usize
     count
 }
 
+impl<'a, K: Likeness> Window<'a, K> {
+    // How often the window has a key that is alike to this one, as floor and as ceiling.
+    pub(crate) fn bracket_of(&self, key: &K) -> (u32, u32)
+        ensures { result ≡ exactly K.alike (all_keys (map (λ rows. rows.now) self.now.pieces)) key.now }
+    {
+        let pieces = &self.pieces[..];
+        self.bracket_from(0, pieces[0], key)
+    }
+}
+
 impl<'a, K: Likeness> Source<K> for Window<'a, K> {
     ghost pieces = { λ w. map (λ rows. rows.now) w.pieces };
 
@@ -49,9 +59,13 @@ impl<'a, K: Likeness> Source<K> for Window<'a, K> {
         holds(before, key) || pieces_hold(&self.pieces, number, key)
     }
 
-    fn bracket_of(&self, key: &K) -> (u32, u32) {
+    fn bracket_from(&self, number: usize, rows: &[Row<K>], key: &K) -> (u32, u32) {
         let pieces = &self.pieces[..];
-        let count = (count_alike(pieces[0], key) + count_alike(pieces[1], key)) as u32;
+        let mut count = count_alike(rows, key);
+        if number == 0 {
+            count = count.saturating_add(count_alike(pieces[1], key));
+        }
+        let count = count.min(u32::MAX as usize) as u32;
         (count, count)
     }
 }

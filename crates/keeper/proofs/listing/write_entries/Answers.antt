@@ -1,6 +1,6 @@
 use Rattle.std.proofs.Common.{◌≡◌, ◌++◌, ◌∷◌, [], take, ap, sym, subst, ◌∙◌, arith}
 use Rattle.keeper.specs.Listing.{all_keys, keys_in, named_after}
-use Rattle.keeper.proofs.Listings.{few_listed, keys_fewer, keys_next, keys_piece, Written, written_entry, written_no_entry}
+use Rattle.keeper.proofs.Listings.{few_listed, is_piece, keys_fewer, keys_next, keys_piece, Written, written_entry, written_no_entry}
 use Rattle.keeper.proofs.listing.write_entries.Goals as goal
 use Rattle.keeper.proofs.listing.write_entries.Goals.{in-Some, in_default}
 
@@ -16,6 +16,11 @@ overflow_add-named g c =
       keys_fewer (λ rows. rows.now) seen.result.now pieces seen.ensures.rows c.loop-number.number c.index-pieces-number.result c.loop-number-test.true c.index-pieces-number.is c.loop-place.place c.loop-place-test.true,
       seen.ensures.few,
     )
+
+pub entry_of-entry-requires : goal.entry_of-entry-requires
+entry_of-entry-requires g c =
+    let seen = c.pieces-pieces in
+    is_piece (λ rows. rows.now) seen.result.now (g.S.Source.pieces c.args.source.now) seen.ensures.rows c.loop-number.number c.index-pieces-number.result c.loop-number-test.true c.index-pieces-number.is c.loop-place.place
 
 pub loop-place-preserved : goal.loop-place-preserved
 loop-place-preserved g c =
