@@ -38,7 +38,8 @@ pub trait Source<K: Likeness> {
 pub fn rows_hold<K: Likeness>(rows: &[Row<K>], key: &K) -> bool
     ensures { result ≡ among K.alike (keys_in rows.now) key.now }
 {
-    rows.iter().any(|row| row.key.is_alike(key))
+    let key = *key;
+    rows.iter().any(|row| row.key.is_alike(&key))
 }
 
 /// Whether a row of the first pieces has a key that is alike to this one.

@@ -15,7 +15,7 @@ use Rattle.layout.specs.Laws.{IsWindow}
 use Rattle.layout.specs.Slots.{Shape}
 use Rattle.layout.proofs.CoverLaws.{cover_is}
 use Rattle.layout.proofs.SlotsOfBlocks.{rows_filled}
-use Rattle.layout.proofs.SmallNumbers.{shape_small}
+use Rattle.layout.proofs.SmallNumbers.{shape_rows}
 use Rattle.ladder.specs.Sums.{keys_in, rows_in}
 use Rattle.keeper.specs.Listing.{all_keys}
 use Rattle.std.proofs.lemmas.List.Folds.{flat_map-map}
@@ -64,5 +64,5 @@ few_keys t shape m n is window =
     let most = 2 ^ 21 in
     let each : All (λ b. length (tally_at t b).rows ≤ most) (cover_of shape m n) = λ i d lo.
     let b = slice_index_or (cover_of shape m n) i d in
-    omega (arith, shape_small shape.top shape.scales is, (rows_filled shape).within b (cover.there i d lo), length-take (in_use (rows_of t b) (head_at t b)) (rows_of t b), length-take (slot_of b).rows (drop (slot_of b).start t.rows)) in
+    omega (arith, shape_rows shape.top shape.scales is, (rows_filled shape).within b (cover.there i d lo), length-take (in_use (rows_of t b) (head_at t b)) (rows_of t b), length-take (slot_of b).rows (drop (slot_of b).start t.rows)) in
     omega (arith, keys_by_block (tally_at t) most (cover_of shape m n) each, cover.few, is.highest, mul-le-mul_right {m = length (cover_of shape m n)} {n = 20} most (omega (arith, cover.few, is.highest)))

@@ -8,7 +8,7 @@ use Rattle.keeper.specs.Rules.{Put}
 use Rattle.keeper.specs.Tables.{lengths, needed}
 use Rattle.keeper.proofs.Admits.{Admitted, put_admitted}
 use Rattle.keeper.proofs.Truths.{true_put}
-use Rattle.layout.proofs.SmallNumbers.{shape_small}
+use Rattle.layout.proofs.SmallNumbers.{shape_rows}
 use Rattle.tally.specs.declared.rows.Head.{Head}
 use Rattle.tally.specs.declared.rows.Row.{Row}
 use Rattle.ladder.specs.Ladders.{need_of, shape_at, stored}
@@ -44,7 +44,7 @@ module _ {K : Type 0} (alike : K → K → Bool) (s s' : Figures) (r : Result (U
     takes : is_ok r ≡ true → (past window : List K) → length past + length window ≡ s.puts → s.size ≡ length window → HoldsWindow alike s rows heads past window → HoldsWindow alike s' rows' heads' past (window ++ key ∷ [])
     takes ok past window came size held =
         let many : length (past ++ window) ≡ s.puts = length-append past window ∙ came in
-        let few = shape_small (shape_at s).top (shape_at s).scales held.levels in
+        let few = shape_rows (shape_at s).top (shape_at s).scales held.levels in
         let last : (shape_at s).top + ((shape_at s).scales - 1) ≡ s.span = omega (arith, held.levels.some) in
         let holds = put_holds alike (shape_at s) (omega (arith, few)) (past ++ window) key (tables rows heads) (room ok) held.tallies in
         let now : HoldsTallies alike (shape_at s) (tables rows' heads') ((past ++ window) ++ key ∷ []) =

@@ -1,12 +1,20 @@
 -- The blocks that an arrival falls into. Assumes nothing.
-use Rattle.std.proofs.Common.{◌≡◌, ◌/◌, ⊎_elim, [], ◌∷◌, sym, subst, Contains, add-mul, one-mul, ℕ, zero, suc, ◌+◌, ◌<◌, ◌≤◌, All, refl, arith, div-add-mod'}
+use Rattle.std.proofs.Common.{◌≡◌, ◌/◌, ⊎_elim, [], ◌∷◌, sym, subst, Contains, add-mul, one-mul, ℕ, zero, suc, ◌+◌, ◌-◌, ◌++◌, ◌<◌, ◌≤◌, All, refl, arith, div-add-mod'}
 use Rattle.std.proofs.lemmas.List.Elements.{All-nil, All-cons, All-append, Contains-append_left, Contains-append_right, Contains-push}
 use Rattle.std.proofs.Math.Nat.{div-eq_of_lt-le}
-use Rattle.std.proofs.lemmas.Bool.{cases_eq}
+use Rattle.std.proofs.lemmas.Bool.{cases_eq, lt-ltb}
 use Rattle.std.proofs.lemmas.Nat.{mod_below, pow_pos}
 use Rattle.layout.specs.Slots.{Shape, block_size}
-use Rattle.layout.specs.Blocks.{Stretch, block_of, blocks_from, scales_from, visits_of}
+use Rattle.layout.specs.Blocks.{Stretch, block_of, blocks_from, scales_from, visits_left, visits_of}
 use Rattle.layout.specs.Laws.{IsVisit}
+
+-- all are left at first
+pub visits_begin : (top m scales : ℕ) → visits_left top scales m 0 0 ≡ scales_from top m 0 scales
+visits_begin top m zero = refl
+visits_begin top m (suc n) =
+    let all : top + 1 - 0 ≡ top + 1 = omega arith in
+    let rest : suc n - 1 ≡ n = omega arith in
+    rw (lt-ltb 0 (suc n) (omega arith)) (λ t. blocks_from top m 0 0 (all t) ++ scales_from top m 1 (rest t))
 
 module _ (shape : Shape) (m : ℕ) where
   falls_into : (i j : ℕ) → i < shape.scales → j ≤ shape.top → IsVisit shape m (block_of shape.top m i j)

@@ -34,6 +34,17 @@ heads_closed top (suc j) h =
     let same : top + 1 - suc j ≡ top - j = omega arith in
     omega (arith, heads_closed top j (omega arith), ap (λ z. 2 ^ z) one, two-pow-succ (top - j), ap (λ z. 2 ^ z) same)
 
+-- the same, by the slots and the rows of the level itself
+pub rows_by_level : (top j : ℕ) → j ≤ top → rows_below top j + (2 ^ (top + 1) + (top + 1) + j + 1) ≡ j * (2 ^ top * (top + 1)) + 2 * slots_at top j + rows_at top j
+rows_by_level top j h =
+    let one : top + 1 - j ≡ suc (top - j) = omega arith in
+    omega (arith, rows_closed top j (omega arith), rows_and_one top j, ap (λ z. 2 ^ z) one, two-pow-succ (top - j))
+
+pub heads_by_level : (top j : ℕ) → j ≤ top → heads_below top j + 2 * slots_at top j ≡ 2 ^ (top + 1) + j + 2
+heads_by_level top j h =
+    let one : top + 1 - j ≡ suc (top - j) = omega arith in
+    omega (arith, heads_closed top j (omega arith), ap (λ z. 2 ^ z) one, two-pow-succ (top - j))
+
 pow_two : (n : ℕ) → n ^ 2 ≡ n * n
 pow_two n = pow-suc n 1 ∙ ap (λ z. z * n) (pow-suc n 0 ∙ ap (λ z. z * n) (pow-zero n) ∙ one-mul n)
 
@@ -49,3 +60,17 @@ pub heads_of_scale : (top : ℕ) → heads_below top (top + 1) ≡ scale_heads t
 heads_of_scale top =
     let none : top + 1 - (top + 1) ≡ 0 = omega arith in
     omega (arith, heads_closed top (top + 1) (omega arith), ap (λ z. 2 ^ z) none)
+
+-- the same by its last level, which has two slots
+last_slots : (top : ℕ) → slots_at top top ≡ 2
+last_slots top = let none : top - top ≡ 0 = omega arith in omega (arith, ap (λ z. 2 ^ z) none)
+
+pub rows_by_last : (top : ℕ) → rows_below top top + 2 * rows_at top top ≡ scale_rows top
+rows_by_last top =
+    let next : top + 1 ≡ suc top = omega arith in
+    omega (arith, rows_of_scale top, ap (rows_below top) next, ap (λ n. n * rows_at top top) (last_slots top))
+
+pub heads_by_last : (top : ℕ) → heads_below top top + 2 ≡ scale_heads top
+heads_by_last top =
+    let next : top + 1 ≡ suc top = omega arith in
+    omega (arith, heads_of_scale top, ap (heads_below top) next, last_slots top)

@@ -10,6 +10,11 @@ pub record IsShape (top scales : ℕ) : Type 0 where
   pub some : 1 ≤ scales
   pub few : top + scales ≤ most_span + 1
 
+-- all its slots take so many rows and heads
+pub record Takes (top scales r h : ℕ) : Type 0 where
+  pub rows : scales * scale_rows top ≡ r
+  pub heads : scales * scale_heads top ≡ h
+
 -- a level j and a scale i of a ladder whose last level is t
 pub record IsLevel (t i j : ℕ) : Type 0 where
   pub lowest : least_accuracy + 3 ≤ t

@@ -22,23 +22,28 @@ use std::marker::Model;
 /// to 2^K; they are counted from 0. Scale i has levels 0 to L, and a block of level j holds 2^(i + j) arrivals. A level has
 /// 2^(L - j) + 1 slots, which its blocks use in turn, each of 2^j * (L + 1) - 1 rows and one head; they lie by scale, then by level,
 /// then by slot. None of that is kept in a table: places are worked out.
+// What all slots take follows from the two other numbers. It is kept, since every call on a keeper asks for it.
 #[derive(Clone, Copy, PartialEq, Eq, Debug)]
 pub struct Layout {
     top: u32,
     scales: u32,
+    rows: usize,
+    heads: usize,
 }
 
 impl Model for Layout {
-    ghost use Rattle.layout.specs.Slots.{Shape};
-    ghost use Rattle.layout.specs.Inside.{IsShape};
+    ghost use Rattle.layout.specs.Slots.{Shape, all_rows, all_heads};
+    ghost use Rattle.layout.specs.Inside.{IsShape, Takes};
 
     ghost Value = { Shape };
 
     ghost view = { λ l. record { top = l.top; scales = l.scales } };
 
-    ghost invariant = { λ l. IsShape l.top l.scales };
+    ghost invariant = { λ l. IsShape l.top l.scales × Takes l.top l.scales l.rows l.heads };
 
-    ghost inverse = { λ s. record { top = s.top; scales = s.scales } };
+    ghost inverse = { λ s. record { top = s.top; scales = s.scales; rows = all_rows s; heads = all_heads s } };
+
+    ghost inverse_ok = { λ l is t. record { top = l.top; scales = l.scales; rows = is.1.rows t; heads = is.1.heads t } };
 }
 
 // Where a cover lies: at a scale, from one arrival to another. `top` is the number of the scale's last level.
@@ -57,9 +62,13 @@ impl Layout {
         ensures range { IsShape result.top result.scales }
     {
         let top = setting.accuracy() + 3;
+        let scales = setting.span() + 1 - top;
+        let last = last_level(top, scales);
         Layout {
             top,
-            scales: setting.span() + 1 - top,
+            scales,
+            rows: last.row_behind(),
+            heads: last.head_behind(),
         }
     }
 
@@ -70,7 +79,7 @@ impl Layout {
         ensures few { result < 2 ^ 21 }
         ensures filled { FillRows self.now result }
     {
-        self.last_level().row_behind()
+        self.rows
     }
 
     /// How many heads the slots take: one each.
@@ -80,15 +89,7 @@ impl Layout {
         ensures few { result < 2 ^ 16 }
         ensures filled { FillHeads self.now result }
     {
-        self.last_level().head_behind()
-    }
-
-    // The last level of the last scale: behind its slots there are none.
-    fn last_level(&self) -> Level
-        ensures value { result ≡ record { top = self.now.top; scale = self.now.scales - 1; number = self.now.top } }
-        ensures some { 1 ≤ self.now.scales }
-    {
-        Level::of(self.top, self.scales - 1, self.top)
+        self.heads
     }
 
     /// The scale that answers for windows of this size: the smallest that is for windows so long, or the last where none is.
@@ -159,6 +160,14 @@ impl Layout {
             end: cover_end(scale, arrivals),
         }
     }
+}
+
+// The last level of the last scale: behind its slots there are none.
+fn last_level(top: u32, scales: u32) -> Level
+    requires { IsShape top scales }
+    ensures { result ≡ record { top = top; scale = scales - 1; number = top } }
+{
+    Level::of(top, scales - 1, top)
 }
 
 // The exponent of the least power of 2 that a window fits in: as many digits as the number before its size has in binary.

@@ -68,18 +68,18 @@ impl Level {
         self.scale + self.number
     }
 
-    // How many slots it has: as many as blocks of its size can touch its scale's longest window, whose edge can cut the oldest.
+    // How many slots it has.
     pub(crate) fn slots(&self) -> u32
         ensures { result ≡ slots_at self.now.top self.now.number }
     {
-        (1 << (self.top - self.number)) + 1
+        slots_at(self.top, self.number)
     }
 
     // How many rows each of them has.
     pub(crate) fn rows(&self) -> usize
         ensures { result ≡ rows_at self.now.top self.now.number }
     {
-        power(self.number) * (self.top as usize + 1) - 1
+        rows_at(self.top, self.number)
     }
 
     // Its first row.
@@ -124,32 +124,49 @@ fn power(exponent: u32) -> usize
     1 << exponent
 }
 
+// How many slots a level has: as many as blocks of its size can touch its scale's longest window, whose edge can cut the oldest.
+fn slots_at(top: u32, level: u32) -> u32
+    requires { (top ≤ 9) × (level ≤ top) }
+    ensures { result ≡ slots_at top level }
+{
+    (1 << (top - level)) + 1
+}
+
+// How many rows each of them has.
+fn rows_at(top: u32, level: u32) -> usize
+    requires { (top ≤ 9) × (level ≤ top) }
+    ensures { result ≡ rows_at top level }
+{
+    power(level) * (top as usize + 1) - 1
+}
+
 // How many rows the levels below this one have. Level j has (2^top + 2^j) * (top + 1) rows, less one for each of its slots, of which
-// there are 2^(top - j) + 1; over the levels, powers of 2 in a row add up to two of them.
+// there are 2^(top - j) + 1; over the levels, powers of 2 in a row add up to two of them. Of these sums, what is of this level is told
+// by its own slots and rows, so that a walk from level to level has few powers to find.
 fn below_rows(top: u32, level: u32) -> usize
-    requires { (top ≤ 9) × (level ≤ top + 1) }
+    requires { (top ≤ 9) × (level ≤ top) }
     ensures { result ≡ rows_below top level }
 {
     let levels = top as usize + 1;
     let below = level as usize;
-    below * (power(top) * levels) + power(top + 1 - level) + power(level) * levels
-        - (power(top + 1) + levels + below)
+    below * (power(top) * levels) + 2 * slots_at(top, level) as usize + rows_at(top, level)
+        - (power(top + 1) + levels + below + 1)
 }
 
 // How many heads the levels below this one have.
 fn below_heads(top: u32, level: u32) -> usize
-    requires { (top ≤ 9) × (level ≤ top + 1) }
+    requires { (top ≤ 9) × (level ≤ top) }
     ensures { result ≡ heads_below top level }
 {
-    power(top + 1) - power(top + 1 - level) + level as usize
+    power(top + 1) + level as usize + 2 - 2 * slots_at(top, level) as usize
 }
 
-// How many rows a scale has.
+// How many rows a scale has: its last level has two slots.
 fn scale_rows(top: u32) -> usize
     requires { top ≤ 9 }
     ensures { result ≡ scale_rows top }
 {
-    below_rows(top, top + 1)
+    below_rows(top, top) + 2 * rows_at(top, top)
 }
 
 // How many heads a scale has.
@@ -157,5 +174,5 @@ fn scale_heads(top: u32) -> usize
     requires { top ≤ 9 }
     ensures { result ≡ scale_heads top }
 {
-    below_heads(top, top + 1)
+    below_heads(top, top) + 2
 }

@@ -22,16 +22,18 @@ pub(crate) struct Window<'a, K> {
 fn holds<K: Likeness>(rows: &[Row<K>], key: &K) -> bool
     ensures { result ≡ among K.alike (keys_in rows.now) key.now }
 {
-    rows.iter().rev().any(|row| row.key.is_alike(key))
+    let key = *key;
+    rows.iter().rev().any(|row| row.key.is_alike(&key))
 }
 
 // How many rows have a key that is alike to this one. Each row adds 0 or 1, without a branch, so that several can be taken at once.
 fn count_alike<K: Likeness>(rows: &[Row<K>], key: &K) -> usize
     ensures { result ≡ true_count K.alike (keys_in rows.now) key.now }
 {
+    let key = *key;
     let mut count = 0;
     for row in rows {
-        count += row.key.is_alike(key) as usize;
+        count += row.key.is_alike(&key) as usize;
     }
     count
 }

@@ -1,15 +1,19 @@
 use Rattle.std.proofs.Common.{◌∙◌, ◌*◌, sym, ap, subst}
 use Rattle.layout.specs.Laws.{FillHeads}
+use Rattle.layout.specs.Slots.{all_heads}
 use Rattle.layout.proofs.Closed.{heads_of_scale}
-use Rattle.layout.proofs.Filling.{heads_end}
+use Rattle.layout.proofs.SmallNumbers.{shape_heads}
 use Rattle.layout.proofs.SlotsOfBlocks.{heads_filled}
 use Rattle.layout.proofs.layout.Layout.heads.Goals as goal
 
 pub returns-clause-value : goal.returns-clause-value
-returns-clause-value c = let shape = c.args.self.now in rw (c.head_behind.ensures.value, c.last_level.ensures.value) (heads_end shape.top shape.scales c.last_level.ensures.some)
+returns-clause-value c = sym c.self.invariant.1.heads ∙ ap all_heads c.self.view_is
 
 pub returns-clause-sum : goal.returns-clause-sum
 returns-clause-sum c = let shape = c.args.self.now in returns-clause-value c ∙ ap (λ n. shape.scales * n) (sym (heads_of_scale shape.top))
+
+pub returns-clause-few : goal.returns-clause-few
+returns-clause-few c = let l = c.self.inside in rw (← c.self.invariant.1.heads) (shape_heads l.top l.scales c.self.invariant.0)
 
 pub returns-clause-filled : goal.returns-clause-filled
 returns-clause-filled c = let shape = c.args.self.now in subst (FillHeads shape) (sym (returns-clause-value c)) (heads_filled shape)

@@ -11,4 +11,4 @@ returns-clause-value c =
     ∙ ap (λ s. scale_of s c.args.window) c.self.view_is
 
 pub returns-clause-right : goal.returns-clause-right
-returns-clause-right c short = rw (returns-clause-value c, ← c.self.view_is) (scale_right _ c.args.window c.self.invariant.some (subst (λ s. c.args.window ≤ longest s) (sym c.self.view_is) short))
+returns-clause-right c short = rw (returns-clause-value c, ← c.self.view_is) (scale_right _ c.args.window c.self.invariant.0.some (subst (λ s. c.args.window ≤ longest s) (sym c.self.view_is) short))
