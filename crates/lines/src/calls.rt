@@ -1,7 +1,7 @@
 //! The calls of a cutter.
 
 ghost use Rattle.std.specs.Prelude.{◌≡◌, ℕ, ◌≤◌, List, [], ◌∷◌, ◌++◌, map, length, take};
-ghost use Rattle.lines.specs.Kept.{keep_byte, keep_bytes, line_of, last_of, After};
+ghost use Rattle.lines.specs.Kept.{keep_bytes, line_of, last_of, After};
 ghost use Rattle.lines.specs.Lines.{without_cr, shown, ended_line, last_line, CutRight, CutOnce};
 ghost use Rattle.std.specs.Option.{option_map, option_to_list};
 
@@ -40,18 +40,7 @@ impl Cutter {
         }
     }
 
-    /// Takes one more byte of the line under way.
-    pub fn keep(&mut self, byte: u8)
-        ensures kept { self.new ≡ keep_byte self.old byte }
-        ensures fits { length self.new ≤ 82 }
-        ensures after { (raw : List ℕ) → After self.old raw → After self.new (raw ++ byte ∷ []) }
-    {
-        if !self.bytes.is_full() {
-            self.bytes.push(byte);
-        }
-    }
-
-    /// Takes more bytes of the line under way, one after another.
+    /// Takes more bytes of the line under way, as many as come.
     // At once, since most lines come whole.
     pub fn keep_all(&mut self, bytes: &[u8])
         ensures kept { self.new ≡ keep_bytes self.old bytes.now }
@@ -108,7 +97,7 @@ mod tests {
     #[test]
     fn bytes_come_one_by_one_or_at_once(rt: HostRuntime) {
         let mut cutter = fed(b"a");
-        cutter.keep(b'b');
+        cutter.keep_all(b"b");
         cutter.keep_all(b"cd");
         assert!(rt; cutter.line() == &b"abcd"[..]);
     }

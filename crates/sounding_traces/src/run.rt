@@ -1,11 +1,10 @@
 //! Whole traces on soundings.
 
-ghost use Rattle.std.specs.Prelude.{◌≡◌, IfOk};
-ghost use Rattle.verdicts.specs.Rules.{Judged};
-ghost use Rattle.traces.specs.Stages.{keeper_of};
+ghost use Rattle.std.specs.Prelude.{IfOk};
 ghost use Rattle.sounding_traces.specs.Model.{told_as};
 ghost use Rattle.sounding_traces.specs.Traces.{Performed, SoundingRuns};
 
+use crate::asking::verdict_at;
 use crate::calls::{SoundingAnswer, SoundingCall};
 use crate::trace::SoundingTrace;
 use keeper::{Entry, Keeper};
@@ -14,24 +13,6 @@ use settings::Setting;
 use std::alloc::{AllocError, Global};
 use tally::{Head, Row};
 use traces::Stage;
-use verdicts::{Judgement, VerdictRefusal, verdict};
-
-// The verdict of the keeper, in whatever state the trace stands.
-fn verdict_at<P: Keeper<SoundingKey>>(
-    stage: &Stage<P>,
-    rows: &[Row<SoundingKey>],
-    heads: &[Head],
-    sounder: [u8; 2],
-    class: u8,
-) -> Result<Judgement, VerdictRefusal>
-    ensures { Judged P.Record.figures P.Keeper.holds P.Record.need P.Keeper.bracket (keeper_of stage.now) rows.now heads.now sounder class result }
-{
-    match stage {
-        Stage::Keeper(keeper) => verdict(keeper, rows, heads, sounder, class),
-        Stage::Filling(window) => window.verdict(rows, heads, sounder, class),
-        Stage::Sliding(window) => window.verdict(rows, heads, sounder, class),
-    }
-}
 
 // One call, with the entries that it listed.
 fn perform<P: Keeper<SoundingKey> + Drop>(
