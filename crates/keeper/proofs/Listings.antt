@@ -1,20 +1,20 @@
 -- The entries of a list: one key after another, place by place, and why they are right as the list of a window. Assumes nothing, but for the last part, which takes alike to be symmetric and transitive.
-use Rattle.std.proofs.Common.{◌≡◌, ℕ, ◌+◌, ◌-◌, ◌*◌, ◌^◌, ◌<◌, ◌≤◌, Bool, true, false, cond, not, ◌||◌, leb, List, [], ◌∷◌, ◌++◌, map, length, Some, None, filter, Option, sym, refl, ap, ◌∙◌, subst, mul-le-mul_left, arith, length-append, take, drop, slice_index_or, ⊎_elim}
+use Rattle.std.proofs.Common.{◌≡◌, ℕ, ◌+◌, ◌-◌, ◌*◌, min, ◌^◌, ◌<◌, ◌≤◌, Bool, true, false, cond, not, ◌||◌, leb, List, [], ◌∷◌, ◌++◌, map, length, Some, None, filter, Option, sym, refl, ap, ◌∙◌, subst, mul-le-mul_left, arith, length-append, take, drop, slice_index_or, ⊎_elim}
 use Rattle.std.proofs.lemmas.List.Elements.{filter-append, All-nil, All-cons, All-head, All-tail, All-filter, All-map, All-weaker, filter_passes}
-use Rattle.std.proofs.lemmas.List.{append-nil, map-append, length_push, append_assoc, flat_map_more, get_or-map, length-map, length-take, take_all, take_more, take-append-drop, take_rest}
-use Rattle.std.proofs.lemmas.List.Folds.{length-flat_map-take, list_any-append}
+use Rattle.std.proofs.lemmas.List.{append-nil, map-append, length_push, append_assoc, flat_map_more, get_or-map, length-map, length-take, take_all, take_more, take-append-drop, take-take, take_rest}
+use Rattle.std.proofs.lemmas.List.Folds.{list_any-append}
 use Rattle.std.proofs.lemmas.List.Concat.{flat_map-cons}
 use Rattle.std.proofs.lemmas.List.Sums.{sum_by-cons, count_by-le-length, length-filter}
 use Rattle.std.proofs.lemmas.Bool.{both_ways, cases_lt, cond_both, not-true, or_left, or_right, le-leb, leb-true}
 use Rattle.std.specs.List.{All, list_any}
-use Rattle.std.proofs.Math.Seq.{set_out}
+use Rattle.std.proofs.Math.Seq.{set_out, take-append_seam, take-length}
 use Rattle.tally.specs.declared.rows.Row.{Row}
 use Rattle.tally.proofs.Over.{over_more}
 use Rattle.likeness.specs.Counts.{Stands, true_count}
 use Rattle.likeness.proofs.Counting.{true_count_same}
 use Rattle.keeper.specs.declared.entry.Entry.{Entry}
 use Rattle.keeper.specs.Listing.{all_keys, Apart, among, firsts, keys_in, listed, named_after, entry_of, bracket_in, written_over, IsPiece}
-use Rattle.std.proofs.lemmas.Grind.{common_steps}
+use Rattle.std.proofs.lemmas.Grind.{common_steps, flat_map-append}
 use Rattle.std.specs.Prelude.{slice_set}
 use Rattle.keeper.specs.Rules.{Bracket, Lists}
 
@@ -54,18 +54,18 @@ module _ {K : Type 0} where
         ∙ append_assoc (take number whole) (slice_index_or whole number (now piece) ∷ []) (drop (number + 1) whole)
         ∙ ap (λ rows. take number whole ++ rows ∷ drop (number + 1) whole) (piece_here ∙ sym (ap (λ rows. take place (now piece) ++ rows) (take_rest (now piece) place) ∙ take-append-drop place (now piece)))
 
-    -- the keys before a row are fewer than all
-    pub keys_fewer : (place : ℕ) → place < length (now piece) → length (all_keys (take number whole) ++ keys_in (take place (now piece))) < length (all_keys whole)
-    keys_fewer place inside =
-        omega (
-          arith,
-          length-append (all_keys (take number whole)) (keys_in (take place (now piece))),
-          length-map (take place (now piece)) (λ row. row.key),
-          length-take place (now piece),
-          length-map (now piece) (λ row. row.key),
-          ap (λ rows. length (keys_in rows)) piece_here,
-          length-flat_map-take keys_in whole number (now piece) here_within,
-        )
+    -- the keys before a row, and the others
+    pub keys_split : (place : ℕ)
+        → all_keys whole ≡ (all_keys (take number whole) ++ keys_in (take place (now piece))) ++ (keys_in (take (length (now piece) - place) (drop place (now piece))) ++ all_keys (drop (number + 1) whole))
+    keys_split place =
+        let before = take place (now piece) in
+        let rows = take (length (now piece) - place) (drop place (now piece)) in
+        let later = drop (number + 1) whole in
+        ap all_keys (is_piece place)
+        ∙ flat_map-append keys_in (take number whole) ((before ++ rows) ∷ later)
+        ∙ ap (λ ks. all_keys (take number whole) ++ ks)
+        (flat_map-cons keys_in (before ++ rows) later ∙ ap (λ ks. ks ++ all_keys later) (map-append (λ row. row.key) before rows) ∙ append_assoc (keys_in before) (keys_in rows) (all_keys later))
+        ∙ sym (append_assoc (all_keys (take number whole)) (keys_in before) (keys_in rows ++ all_keys later))
 
 module _ {K : Type 0} (alike : K → K → Bool) where
   first_more : (test : K → Bool) (x k : K) (ys : List K) (a b : Bool) → test k ≡ not a
@@ -153,6 +153,28 @@ module _ {K : Type 0} (alike : K → K → Bool) where
         ways false false e =
             ap (map entry) (filter-append high (firsts alike xs) (k ∷ []) ∙ ap (λ t. filter high (firsts alike xs) ++ cond t (k ∷ []) []) e ∙ append-nil (filter high (firsts alike xs)))
 
+    extended_front : (es : List (Entry K)) (more : Option (Entry K)) → take (length es) (extended es more) ≡ es
+    extended_front es None = take-length es
+    extended_front es (Some e) = take-append_seam es (e ∷ [])
+
+    extended_longer : (es : List (Entry K)) (more : Option (Entry K)) → length es ≤ length (extended es more)
+    extended_longer es None = omega arith
+    extended_longer es (Some e) = omega (arith, length-append es (e ∷ []))
+
+    -- the entries of keys are the first of those of the same keys and more
+    pub listed_before : (xs ys : List K) → take (length (listed alike bracket threshold xs)) (listed alike bracket threshold (xs ++ ys)) ≡ listed alike bracket threshold xs
+    listed_before xs [] =
+        let es = listed alike bracket threshold xs in
+        ap (λ ks. take (length es) (listed alike bracket threshold ks)) (append-nil xs) ∙ take-length es
+    listed_before xs (y ∷ ys) =
+        let es = listed alike bracket threshold xs in
+        let more = named_after alike bracket threshold xs y in
+        let next = listed_push xs y in
+        ap (λ ks. take (length es) (listed alike bracket threshold ks)) (sym (append_assoc xs (y ∷ []) ys))
+        ∙ sym (take-take (length es) (length (listed alike bracket threshold (xs ++ y ∷ []))) (listed alike bracket threshold ((xs ++ y ∷ []) ++ ys)) (omega (arith, ap length next, extended_longer es more)))
+        ∙ ap (take (length es)) (listed_before (xs ++ y ∷ []) ys ∙ next)
+        ∙ extended_front es more
+
     -- the entries of these keys are counted, and stand over the front of a list that was `list` before
     pub record Written (keys : List K) (count : ℕ) (list written : List (Entry K)) : Type 0 where
       pub counted : count ≡ length (listed alike bracket threshold keys)
@@ -173,6 +195,27 @@ module _ {K : Type 0} (alike : K → K → Bool) where
     written_no_entry keys k count list written adds before =
         let all = listed_push keys k ∙ ap (extended (listed alike bracket threshold keys)) adds in
         record { counted = before.counted ∙ ap length (sym all); there = before.there ∙ ap (λ es. written_over es list) (sym all) }
+
+    -- of keys, so many of whose entries are wanted, no key behind the last of these makes a difference
+    pub written_enough : (keys behind whole : List K) (most named : ℕ) (list written : List (Entry K)) → whole ≡ keys ++ behind → named ≡ most → Written keys named list written
+        → (named ≡ min most (length (listed alike bracket threshold whole))) × (written ≡ written_over (take most (listed alike bracket threshold whole)) list)
+    written_enough keys behind whole most named list written split enough so_far =
+        let es = listed alike bracket threshold keys in
+        let all = listed alike bracket threshold whole in
+        let front : take (length es) all ≡ es = ap (λ ks. take (length es) (listed alike bracket threshold ks)) split ∙ listed_before keys behind in
+        let first : take most all ≡ es = ap (λ n. take n all) (sym enough ∙ so_far.counted) ∙ front in (
+          omega (arith, so_far.counted, enough, ap length front, length-take (length es) all),
+          so_far.there ∙ ap (λ entries. written_over entries list) (sym first),
+        )
+
+    -- and where fewer are there than wanted, all are
+    pub written_all : (keys : List K) (most named : ℕ) (list written : List (Entry K)) → named ≤ most → Written keys named list written
+        → (named ≡ min most (length (listed alike bracket threshold keys))) × (written ≡ written_over (take most (listed alike bracket threshold keys)) list)
+    written_all keys most named list written within so_far =
+        let es = listed alike bracket threshold keys in (
+          omega (arith, so_far.counted, within),
+          so_far.there ∙ ap (λ entries. written_over entries list) (sym (take_all most es (omega (arith, so_far.counted, within)))),
+        )
 
     -- there are no more entries than keys
     pub few_listed : (keys : List K) → length (listed alike bracket threshold keys) ≤ length keys

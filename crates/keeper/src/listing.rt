@@ -1,6 +1,6 @@
 //! The entries of a list, from whatever has keys in an order and a bracket for each.
 
-ghost use Rattle.std.specs.Prelude.{◌≡◌, ℕ, ◌<◌, ◌^◌, ◌++◌, List, length, map, slice_set, take, true, false, is_ok};
+ghost use Rattle.std.specs.Prelude.{◌≡◌, ℕ, ◌<◌, ◌^◌, ◌++◌, List, length, map, min, slice_set, take, true, false, is_ok};
 ghost use Rattle.keeper.specs.Listing.{all_keys, among, IsFirstFrom, IsPiece, keys_in, listed, named_after, written_over};
 ghost use Rattle.keeper.specs.Refusals.{room_answer};
 ghost use Rattle.tally.specs.declared.rows.Row.{Row};
@@ -82,20 +82,25 @@ fn write_at<K: Copy>(list: &mut [Entry<K>], place: usize, entry: Entry<K>)
     }
 }
 
-// Counts the entries, and writes over the front of the list those that it has places for.
+// Counts the entries up to so many, and writes over the front of the list those of them that it has places for.
 fn write_entries<K: Likeness, S: Source<K>>(
     source: &S,
     threshold: u32,
+    most: usize,
     list: &mut [Entry<K>],
 ) -> usize
-    ensures count { result ≡ length (listed K.alike (S.bracket source.now) threshold (all_keys (S.pieces source.now))) }
-    ensures written { list.new ≡ written_over (listed K.alike (S.bracket source.now) threshold (all_keys (S.pieces source.now))) list.old }
+    ensures few { length (listed K.alike (S.bracket source.now) threshold (all_keys (S.pieces source.now))) < 2 ^ 64 }
+    ensures entries { (result ≡ min most (length (listed K.alike (S.bracket source.now) threshold (all_keys (S.pieces source.now)))))
+        × (list.new ≡ written_over (take most (listed K.alike (S.bracket source.now) threshold (all_keys (S.pieces source.now)))) list.old) }
 {
     let mut named = 0;
     let pieces = source.pieces();
     for number in 0..pieces.len() {
         let rows = pieces[number];
         for place in 0..rows.len() {
+            if named == most {
+                return named;
+            }
             let (before, behind) = (&rows[..place], &rows[place..]);
             let entry = entry_of(source, number, before, behind, &rows[place].key, threshold);
             if let Some(entry) = entry {
@@ -109,7 +114,8 @@ fn write_entries<K: Likeness, S: Source<K>>(
 
 /// Writes the entries over the front of the list, and answers how many: one for each key that stands first among those that are
 /// alike, if its ceiling reaches the threshold. Refused where the list is too short for them.
-// The entries are counted before any is written, so that a list that is too short stays as it was.
+// The entries are counted before any is written, so that a list that is too short stays as it was. They are written up to the last one, and
+// no row behind it is looked at again.
 pub fn list_from<K: Likeness, S: Source<K>>(
     source: &S,
     threshold: u32,
@@ -121,12 +127,9 @@ pub fn list_from<K: Likeness, S: Source<K>>(
     ensures kept { is_ok result ≡ false → list.new ≡ list.old }
 {
     let mut nowhere = [];
-    let named = write_entries(source, threshold, &mut nowhere);
+    let named = write_entries(source, threshold, usize::MAX, &mut nowhere);
     if list.len() < named {
         return Err(Refusal::ShortList);
     }
-    if named > 0 {
-        write_entries(source, threshold, list);
-    }
-    Ok(named)
+    Ok(write_entries(source, threshold, named, list))
 }

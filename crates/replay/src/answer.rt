@@ -7,10 +7,10 @@ use crate::request::Request;
 use crate::tables::{Lent, Tables};
 use keeper::{Entry, Keeper, Record};
 use likeness::SoundingKey;
+use sounding_traces::verdict_at;
 use std::alloc::AllocError;
 use tally::{Head, Row};
 use traces::{Answer, Call, Stage};
-use verdicts::{Judgement, VerdictRefusal, verdict};
 
 /// The call of a request, if its op is that of a plain call: one of a keeper or a window that is no verdict.
 fn plain_call<K: Coded>(request: &Request) -> Option<Result<Call<K>, ()>> {
@@ -52,21 +52,6 @@ fn print_answer<K: Coded>(
             writeln!(out)
         }
         Answer::NotInTrace => writeln!(out, "not in trace"),
-    }
-}
-
-// The verdict in whatever state the keeper is.
-pub(crate) fn verdict_at<P: Keeper<SoundingKey>>(
-    stage: &Stage<P>,
-    rows: &[Row<SoundingKey>],
-    heads: &[Head],
-    sounder: [u8; 2],
-    class: u8,
-) -> Result<Judgement, VerdictRefusal> {
-    match stage {
-        Stage::Keeper(keeper) => verdict(keeper, rows, heads, sounder, class),
-        Stage::Filling(window) => window.verdict(rows, heads, sounder, class),
-        Stage::Sliding(window) => window.verdict(rows, heads, sounder, class),
     }
 }
 

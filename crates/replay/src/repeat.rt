@@ -1,11 +1,11 @@
 //! Many calls for one request.
 
-use crate::answer::verdict_at;
 use crate::coded::Coded;
 use crate::draws::Draws;
 use crate::request::Request;
 use keeper::{Entry, Keeper, Refusal};
 use likeness::SoundingKey;
+use sounding_traces::verdict_at;
 use tally::{Head, Row};
 use traces::Stage;
 
