@@ -32,16 +32,14 @@ impl Model for Walk {
 }
 
 // The largest level whose block can start at a position and ends by `end`. As an exponent of 2, its size is no more than the zeros
-// that end the position in binary, and no more than fits in what is left.
+// that end the position in binary, and no more than fits in what is left. Neither is below the scale's smallest block.
 fn level_at(top: u32, scale: u32, position: u32, end: u32) -> u32
-    requires { (position < end) × (top + scale ≤ 20) }
+    requires walk { IsWalk top scale position end }
+    requires some { position < end }
     ensures { result ≡ level_at scale position end top }
 {
-    position
-        .trailing_zeros()
-        .min((end - position).ilog2())
-        .saturating_sub(scale)
-        .min(top)
+    let exponent = position.trailing_zeros().min((end - position).ilog2());
+    (exponent - scale).min(top)
 }
 
 // That block.

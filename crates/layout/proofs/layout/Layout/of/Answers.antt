@@ -9,8 +9,7 @@ invariant_of-result c =
     let scales = c.span.result + 1 - top in
     let accuracy = c.accuracy-top.ensures.range in
     let span = c.span.ensures.range in
-    let shape : IsShape top scales = record { lowest = omega (arith, accuracy); highest = omega (arith, accuracy); some = omega (arith, c.accuracy-top.ensures.value, span); few = omega (arith, c.accuracy-top.ensures.value, span) } in
-    (
+    let shape : IsShape top scales = record { lowest = omega (arith, accuracy); highest = omega (arith, accuracy); some = omega (arith, c.accuracy-top.ensures.value, span); few = omega (arith, c.accuracy-top.ensures.value, span) } in (
       shape,
       record {
         rows = rw (c.row_behind.ensures.value, c.last_level-last.ensures) (sym (rows_end top scales shape.some));
