@@ -8,7 +8,7 @@ use std::process::ExitCode;
 
 use twin::cost::pair::Folders;
 use twin::cost::plot::plot;
-use twin::cost::{calls, lines, memory, sweep};
+use twin::cost::{calls, lines, memory, runs, sweep};
 
 const USAGE: &str = "usage: measure FOLDER OUT_FOLDER";
 
@@ -19,6 +19,8 @@ const CALLS: &str = "## Nanoseconds per call\n\nSounding keys, through `replay`.
     filling* is a put of a window that is filled and emptied again and again, with the drop of its key, or the only \
     filling where that is long; *put, sliding* is a put and a drop; *count* draws its key among those that come; *list* is at the \
     least threshold, N / 2^a rounded up, and skipped where one would take more than about 5 seconds; *verdict* is on class 6.\n\n";
+
+const RUNS: &str = "## Lists of keys that come in runs\n\nAs *list* above, where each key comes 64 times in a row.\n\n";
 
 const MEMORY: &str = "## Memory\n\nSounding keys; 8 bytes a row, and 8 a head.\n\n";
 
@@ -40,9 +42,10 @@ fn measure(other: PathBuf, out: &Path) -> io::Result<()> {
         twin: own_folder()?,
     };
     fs::create_dir_all(out)?;
-    let parts: [(&str, &dyn Fn() -> io::Result<String>); 3] = [
+    let parts: [(&str, &dyn Fn() -> io::Result<String>); 4] = [
         (LINES, &|| lines::measure(&folders)),
         (CALLS, &|| calls::measure(&folders, tell)),
+        (RUNS, &|| runs::measure(&folders, tell)),
         (MEMORY, &|| Ok(memory::measure())),
     ];
     let mut all = String::new();

@@ -37,7 +37,12 @@ pub struct Setup {
 }
 
 impl Setup {
-    fn header(self) -> Work {
+    /// How the tables call it.
+    pub fn name(self) -> &'static str {
+        if self.is_ladder { "ladder" } else { "ring" }
+    }
+
+    pub fn header(self) -> Work {
         let keeper = if self.is_ladder { b'L' } else { b'R' };
         let (accuracy, span) = (self.setting.accuracy() as u8, self.setting.span() as u8);
         Work {
@@ -75,7 +80,7 @@ impl Setup {
         self.is_ladder || 4 * window * keys.min(window) <= MOST_LISTED
     }
 
-    fn requests(self, requests: &[Request], calls: u64) -> Work {
+    pub fn requests(self, requests: &[Request], calls: u64) -> Work {
         Work {
             bytes: requests.iter().flat_map(Request::bytes).collect(),
             answers: requests.len(),
@@ -124,7 +129,7 @@ impl Setup {
         })
     }
 
-    fn list(self, pair: &mut Pair) -> io::Result<Option<Each>> {
+    pub fn list(self, pair: &mut Pair) -> io::Result<Option<Each>> {
         if !self.is_listed() {
             return Ok(None);
         }
@@ -163,7 +168,7 @@ impl Setup {
         let verdict = self.verdict(&mut pair)?;
         pair.end()?;
         Ok(vec![
-            if self.is_ladder { "ladder" } else { "ring" }.to_owned(),
+            self.name().to_owned(),
             self.setting.accuracy().to_string(),
             self.setting.span().to_string(),
             grouped(self.window().into()),
@@ -188,7 +193,8 @@ fn repeat(what: u8, among: u32, number: u32) -> Request {
     }
 }
 
-fn cell(each: Option<Each>) -> String {
+/// What both took, and the ratio.
+pub fn cell(each: Option<Each>) -> String {
     each.map_or_else(
         || "skipped".to_owned(),
         |each| {

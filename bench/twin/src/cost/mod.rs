@@ -5,5 +5,6 @@ pub mod lines;
 pub mod memory;
 pub mod pair;
 pub mod plot;
+pub mod runs;
 pub mod sweep;
 pub mod table;
