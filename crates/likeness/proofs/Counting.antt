@@ -1,8 +1,21 @@
 -- Counting the keys of a window one by one, and by likeness. Assumes nothing; the last lemma takes alike to be symmetric and transitive.
-use Rattle.std.proofs.Common.{◌≡◌, Bool, true, cond, List, [], ◌∷◌, IsTrue, ◌↔◌, refl, arith}
+use Rattle.std.proofs.Common.{◌≡◌, ℕ, ◌+◌, ◌<◌, ◌≤◌, Bool, true, false, cond, List, [], ◌∷◌, length, get_or, take, count_by, IsTrue, ◌↔◌, refl, ap, ◌∙◌, arith}
+use mir.Val.{bool_byte}
 use Rattle.std.specs.List.{list_any}
-use Rattle.std.proofs.lemmas.List.Sums.{sum_by-cons}
+use Rattle.std.proofs.lemmas.List.Sums.{sum_by_more, sum_by-cons}
 use Rattle.likeness.specs.Counts.{Stands, true_count}
+
+byte_cond : (b : Bool) → (bool_byte b ≡ cond b 1 0) × (bool_byte b ≤ 1)
+byte_cond true = (refl, omega arith)
+byte_cond false = (refl, omega arith)
+
+-- the first i of xs held n that pass; the next one, x, passes if b says so
+pub counted_more : {X : Type 0} (p : X → Bool) (xs : List X) (i : ℕ) (x : X) (b : Bool) (n : ℕ) → i < length xs → x ≡ get_or xs i x → b ≡ p x → (n ≡ count_by p (take i xs)) × (n ≤ i)
+    → (n + bool_byte b ≡ count_by p (take (i + 1) xs)) × (n + bool_byte b ≤ i + 1)
+counted_more p xs i x b n within read test inv =
+    let next = sum_by_more (λ y. cond (p y) 1 0) xs i x within in
+    let one : bool_byte b ≡ cond (p (get_or xs i x)) 1 0 = (byte_cond b).0 ∙ ap (λ t. cond t 1 0) (test ∙ ap p read) in
+    (omega (arith, inv.0, next, one), omega (arith, (byte_cond b).1, inv.1))
 
 -- a key stands in the window exactly where one of the window's keys is alike to it
 pub stands_any : {K : Type 0} (alike : K → K → Bool) (window : List K) (k : K) (b : Bool) → b ≡ list_any (λ x. alike x k) window → IsTrue b ↔ Stands alike window k

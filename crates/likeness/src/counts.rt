@@ -8,11 +8,17 @@ use crate::kind::Likeness;
 use crate::sounding::SoundingKey;
 
 /// The true count of `key`: how often the window holds a key that is alike to it.
+// Each key adds 0 or 1, without a branch, so that several can be taken at once: a chain with `filter` takes half as long again
+// or twice as long.
 pub fn true_count<K: Likeness>(window: &[K], key: &K) -> usize
     ensures value { result ≡ true_count K.alike window.now key.now }
     ensures bound { result ≤ length window.now }
 {
-    window.iter().filter(|other| other.is_alike(key)).count()
+    let mut total = 0;
+    for other in window {
+        total += other.is_alike(key) as usize;
+    }
+    total
 }
 
 // Whether one of the keys is alike to `key`. A function of its own, since the lemma `stands_any` needs its answer as a fact.

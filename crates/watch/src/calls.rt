@@ -1,6 +1,6 @@
 //! The calls of a watch.
 
-ghost use Rattle.std.specs.Prelude.{◌≡◌, ℕ, ◌+◌, ◌≤◌, List, [], ◌++◌, string_bytes, IfOk, OnOk, ◌==◌};
+ghost use Rattle.std.specs.Prelude.{◌≡◌, ℕ, ◌+◌, ◌≤◌, List, [], ◌++◌, length, string_bytes, IfOk, OnOk, ◌==◌};
 ghost use Rattle.lines.specs.Lines.{CutRight};
 ghost use Rattle.watch.specs.Progress.{byte_texts, bytes_text, bytes_values, Fed, kept_more, last_text, start, take_byte, take_bytes};
 ghost use Rattle.watch.specs.Report.{lines_report, most_lines, report, values_of};
@@ -59,6 +59,7 @@ impl<C: Counter> Watch<C> {
         ensures value { result ≡ (self.now.progress.lines == most_lines) }
         ensures most { self.now.progress.lines ≤ most_lines }
         ensures among { C.came self.now.counter ≤ self.now.progress.lines }
+        ensures fits { length self.now.progress.kept ≤ 82 }
     {
         self.counts.lines == MOST_LINES
     }

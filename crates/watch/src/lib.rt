@@ -5,6 +5,8 @@
 //! The first million lines are treated, and what follows them is ignored.
 #![tactic(auto)]
 
+ghost use Rattle.std.specs.Prelude.{◌≤◌, length};
+
 use lines::Cutter;
 use std::marker::Model;
 
@@ -25,6 +27,7 @@ pub const MOST_LINES: u32 = 1_000_000;
 pub struct Watch<C: Counter> {
     cutter: Cutter,
     counts: Counts<C>,
+    ghost fits: { length cutter ≤ 82 },
 }
 
 // A watch is how far it has come, and its counter.
